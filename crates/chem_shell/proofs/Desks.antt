@@ -1,10 +1,11 @@
 -- What many ends at desks of one hall leave, in the words of the top call.
-use Rattle.std.proofs.Common.{◌≡◌, ◌≢◌, ◌⊎◌, ◌∙◌, ◌<◌, ◌≤◌, ◌^◌, ◌+◌, ◌++◌, if◌then◌else◌, true, false, suc, Bool, ℕ, List, [], ◌∷◌, Option, None, option_map, length, map, refl, sym, ap, subst, inl, inr, append-nil, arith}
+use Rattle.std.proofs.Common.{◌≡◌, ◌≢◌, ◌⊎◌, ◌∙◌, ◌<◌, ◌≤◌, ◌^◌, ◌+◌, ◌++◌, if◌then◌else◌, true, false, suc, Bool, ℕ, List, [], ◌∷◌, Some, length, map, refl, sym, ap, subst, inl, inr, append-nil, arith}
 use Rattle.std.proofs.lemmas.Bool.{cases_lt}
 use Rattle.std.proofs.lemmas.List.Elements.{All-nil, All-cons}
 use Rattle.std.specs.Prelude.{All, slice_index_or}
 use Rattle.std.specs.List.{AllZip}
-use Rattle.disk_edge.specs.Disk.{DiskModel, IfTold}
+use Rattle.disk_edge.specs.Disk.{DiskModel}
+use Rattle.disk_pair.specs.Term.{OfEachPair, disk_a, disk_b}
 use Rattle.io_edge.specs.declared.sinks.Sink as put
 use Rattle.io_edge.specs.declared.sources.Source as taken
 use Rattle.session_run.specs.Cursors.{Calls}
@@ -12,16 +13,15 @@ use Rattle.session_run.specs.Truths.{IsInRun, ServicesAreTrue}
 use Rattle.session_run.specs.declared.settings.EndStatus.{EndStatus}
 use Rattle.session_run.specs.declared.settings.EndStatus.TheVariants.{Done, SourceFault, SinkFault, NoMemory, InputTooLong, Worn}
 use Rattle.journal_core.specs.Looks.{Narrows}
-use Rattle.journal_core.specs.Standing.{Standing}
-use Rattle.store_disk.specs.Loads.{OpensAfter, OpensTo}
-use Rattle.store_disk.specs.OnDisk.{Has, StandsFor, StoreTerm}
-use Rattle.store_disk.specs.Payloads.{payload, payloads}
+use Rattle.store_disk.specs.Loads.{OpensAfter}
+use Rattle.store_disk.specs.OnDisk.{StandsFor, StoreTerm}
 use Rattle.store_disk.specs.Stored.{Stretches}
-use Rattle.store_machine.specs.Laws.{IsSound, KeptIsRead}
+use Rattle.store_disk.specs.declared.disks.Disks.{Disks}
+use Rattle.store_machine.specs.Laws.{IsSound, RunsStaySound}
 use Rattle.store_machine.specs.Openings.{IsOpened}
+use Rattle.store_machine.specs.Rebases.{RebasesGrow, RebasesStay}
 use Rattle.store_machine.specs.Told.{RunsAdd}
 use Rattle.store_machine.specs.Runs.{IsCalm, IsRun, calls_of}
-use Rattle.store_machine.specs.declared.machine.Change.{Change}
 use Rattle.store_machine.specs.declared.machine.State.{State}
 use Rattle.store_machine.specs.declared.machine.Step.{Step}
 use Rattle.turn_gate.proofs.Lists.{of_self}
@@ -37,28 +37,13 @@ use Rattle.serve_ends.specs.declared.end.End.{End}
 use Rattle.serve_ends.specs.declared.status.TheConstants.{SOURCE_FAULT, SINK_FAULT, INPUT_TOO_LONG, WORN}
 use Rattle.chem_shell.specs.Loading.{HasEndCauses}
 use Rattle.chem_shell.specs.Serving.{IsScriptServed}
-use Rattle.chem_shell.specs.OnDisk.{AreAtDesks, AreOnDisk, ServesAtDesk, ServesOn}
+use Rattle.chem_shell.specs.OnDisks.{AreAtDesks, AreOnDisks, ServesAtDesk, ServesOn}
 use Rattle.chem_shell.specs.Words.{settings_of}
 use Rattle.chem_shell.specs.declared.request.Plan.{Plan}
 use Rattle.chem_shell.proofs.Ends.{IsOfEnd}
-use Rattle.chem_shell.proofs.Loaded.{on_this_disk}
-use Rattle.chem_shell.proofs.Opened.{no_doubt, one_opened}
+use Rattle.chem_shell.proofs.Loaded.{on_these_disks}
+use Rattle.chem_shell.proofs.Opened.{opened_in, opens_at}
 use Rattle.chem_shell.proofs.Transcripts.{end_of, script_of, served_true}
-
--- a store whose disk leaves what a read gives opens to the history of each state for which it stands
-pub opens_at : {D : Type 0} (model : DiskModel D) (store : StoreTerm D) (s t : State) → StandsFor model store s
-    → s.doubt ≡ None → StandsFor model store t
-    → IfTold (model.content store.journal.disk) (model.images store.journal.disk)
-    → IfTold (model.content store.journal.disk) (OpensTo t.history)
-opens_at model store s t stands doubt other image l told =
-    let has = subst (λ (d : Option Change). Has model store.journal (payloads t.history) (option_map payload d))
-    (no_doubt model store s t stands doubt other) other.journal in
-    record {
-      history = other.memory.sound.history;
-      plain = other.plain;
-      few = omega (arith, other.memory.stands.version, other.memory.stands.within);
-      opens = (has.1 l told).each l (image l told);
-    }
 
 -- how a session ended, by the status of its end
 ended_worn : (ended : EndStatus) (status : ℕ) → IsStatusOf ended status → status ≡ WORN → ended ≡ Worn
@@ -214,23 +199,13 @@ each_end P (end ∷ ends) each = All-cons P end ends (each 0 end (omega arith))
 one_origin : {O : Type 0} (x y : O) → x ∷ [] ≡ y ∷ [] → x ≡ y
 one_origin x y e = cc e
 
-module _ {D S K : Type 0} (model : DiskModel D) (source : taken.Ghosts S) (sink : put.Ghosts K)
-    (adds : RunsAdd) (kept_law : KeptIsRead) (true_of : ServicesAreTrue)
-    (standing : (store : StoreTerm D) (s : State) → StandsFor model store s
-    → IfTold (model.content store.journal.disk) (λ _. (image : List ℕ)
-    → model.images store.journal.disk image → OpensAfter s image))
-    (plan : Plan) (a : D) (store : StoreTerm D) (s : State) (stands : StandsFor model store s)
-    (opened : IsOpened plan.commits s)
-    (synced : IfTold (model.content store.journal.disk) (model.images store.journal.disk))
-    (read : Narrows model a store.journal.disk) (old : HallPass D) (begins : Begins model store old) where
-  -- what the run of a hall leaves of the disk, for all of its steps
-  hall_on_disk : (left : StoreTerm D) (new : HallPass D) (disk : D) (steps : List Step) → Ends model new left
+module _ {D : Type 0} (model : DiskModel D) (store : StoreTerm D) (old : HallPass D)
+    (begins : Begins model store old) where
+  -- the run of a hall is a stretch from the state at which it begins
+  pub stretch_of : (left : StoreTerm D) (new : HallPass D) (steps : List Step) → Ends model new left
       → (known new).origin ≡ (known old).origin → (known new).seen ≡ (known old).seen ++ steps
-      → disk ≡ left.journal.disk
-      → (on : AreOnDisk model plan.commits a disk store.b (calls_of (λ _. true) steps))
-      × (on.steps ≡ steps) × (on.last ≡ after begins.origin.state steps)
-      × IsRun begins.origin.state steps (after begins.origin.state steps) × IsCalm steps
-  hall_on_disk left new disk steps ends origin seen is =
+      → Stretches model store left begins.origin.state steps (after begins.origin.state steps)
+  stretch_of left new steps ends origin seen =
       let same : ends.origin ≡ begins.origin =
       one_origin ends.origin begins.origin (sym ends.of ∙ (origin ∙ begins.of)) in
       let is_seen : (known new).seen ≡ steps = seen ∙ ap (λ (l : List Step). l ++ steps) begins.seen in
@@ -242,23 +217,50 @@ module _ {D S K : Type 0} (model : DiskModel D) (source : taken.Ghosts S) (sink 
       (after begins.origin.state (known new).seen) =
       subst (λ (x : StoreTerm D). Stretches model x left begins.origin.state (known new).seen
       (after begins.origin.state (known new).seen)) begins.store_is from_origin in
-      let stretch : Stretches model store left begins.origin.state steps (after begins.origin.state steps) =
-      subst (λ (xs : List Step). Stretches model store left begins.origin.state xs
-      (after begins.origin.state xs)) is_seen from_store in
-      let on = on_this_disk adds model standing plan.commits a begins.origin.state store left begins.stands
-      (one_opened kept_law model plan.commits store s begins.origin.state opened stands begins.stands begins.unpinned)
-      (λ l told. opens_at model store s begins.origin.state stands opened.doubt begins.stands synced l
-      (read.same ∙ told)) read (calls_of (λ _. true) steps) disk is
+      subst (λ (xs : List Step). Stretches model store left begins.origin.state xs (after begins.origin.state xs))
+      is_seen from_store
+
+  -- where no end was served, the disks are as they were
+  pub unserved_pair : (left : StoreTerm D) → Ends model old left → left.pair ≡ store.pair
+  unserved_pair left ends = (stretch_of left old [] ends refl (sym (append-nil (known old).seen))).untouched tt
+
+-- what two disks open to at each state for which a store on them stands
+abbrev pub StandingOpens : {D : Type 0} → DiskModel D → StoreTerm D → Type 0
+StandingOpens model store = (t : State) → StandsFor model store t → OfEachPair model store.pair (OpensAfter t)
+
+module _ {D S K : Type 0} (model : DiskModel D) (source : taken.Ghosts S) (sink : put.Ghosts K)
+    (adds : RunsAdd) (stay : RunsStaySound) (grow : RebasesGrow) (rest : RebasesStay) (true_of : ServicesAreTrue)
+    (content_is_image : (d : D) (l : List ℕ) → model.content d ≡ Some l → model.images d l) (plan : Plan)
+    (disks : Disks D) (store : StoreTerm D) (standing : StandingOpens model store) (s : State)
+    (stands : StandsFor model store s) (opened : IsOpened plan.commits s)
+    (read_a : Narrows model disks.a (disk_a store.pair)) (read_b : Narrows model disks.b (disk_b store.pair))
+    (old : HallPass D) (begins : Begins model store old) where
+  -- what the run of a hall leaves of the disks, for all of its steps
+  hall_on_disks : (left : StoreTerm D) → StandingOpens model left → (new : HallPass D) (now : Disks D)
+      (steps : List Step) → Ends model new left → (known new).origin ≡ (known old).origin
+      → (known new).seen ≡ (known old).seen ++ steps → now.a ≡ disk_a left.pair → now.b ≡ disk_b left.pair
+      → (on : AreOnDisks model plan.commits disks now (calls_of (λ _. true) steps))
+      × (on.steps ≡ steps) × (on.last ≡ after begins.origin.state steps)
+      × IsRun begins.origin.state steps (after begins.origin.state steps) × IsCalm steps
+  hall_on_disks left standing' new now steps ends origin seen a b =
+      let stretch = stretch_of model store old begins left new steps ends origin seen in
+      let first = opened_in model begins.opened.0 plan.commits store s begins.origin.state opened stands begins.stands
+      begins.opened.1 in
+      let on = on_these_disks adds stay grow model plan.commits disks begins.origin.state store left standing'
+      begins.stands first (opens_at rest model content_is_image store begins.origin.state
+      (standing begins.origin.state begins.stands) begins.stands plan.commits first disks read_a read_b) read_a read_b
+      (calls_of (λ _. true) steps) now a b
       (record { steps = steps; after = after begins.origin.state steps; stands = stretch; own = refl }) in
       (on.0, on.2, on.1, stretch.run, stretch.calm)
 
   -- the ends in it
-  pub serves_on : (left : StoreTerm D) (new : HallPass D) (disk : D) (before ends : List (End S K))
-      → Ends model new left → (serving : Serving source sink (settings_of plan) old new before ends)
-      → disk ≡ left.journal.disk → ServesOn model source.left sink.written plan a disk store.b before ends
-  serves_on left new disk before ends closed serving is =
+  pub serves_on : (left : StoreTerm D) → StandingOpens model left → (new : HallPass D) (now : Disks D)
+      (before ends : List (End S K)) → Ends model new left
+      → (serving : Serving source sink (settings_of plan) old new before ends) → now.a ≡ disk_a left.pair
+      → now.b ≡ disk_b left.pair → ServesOn model source.left sink.written plan disks now before ends
+  serves_on left standing' new now before ends closed serving a b =
       let first : (known old).given ≡ 1 = begins.given in
-      let on = hall_on_disk left new disk serving.steps closed serving.origin serving.seen is in
+      let on = hall_on_disks left standing' new now serving.steps closed serving.origin serving.seen a b in
       record {
         calls = calls_of (λ _. true) serving.steps;
         on = on.0;
@@ -278,28 +280,3 @@ module _ {D S K : Type 0} (model : DiskModel D) (source : taken.Ghosts S) (sink 
             ap length on.1 ∙ (sym (ap length (serving.seen ∙ ap (λ (l : List Step). l ++ serving.steps) begins.seen))
             ∙ (full ∙ (serving.turns ∙ begins.turns))));
       }
-
-  -- where no end was served, the disk is as it was
-  pub unserved_disk : (left : StoreTerm D) (disk : D) → Ends model old left → disk ≡ left.journal.disk
-      → Narrows model a disk
-  unserved_disk left disk ends is =
-      let same : ends.origin ≡ begins.origin =
-      one_origin ends.origin begins.origin (sym ends.of ∙ begins.of) in
-      let from_origin : Stretches model begins.origin.store left begins.origin.state (known old).seen
-      (after begins.origin.state (known old).seen) =
-      subst (λ (o : Origin D). Stretches model o.store left o.state (known old).seen (after o.state (known old).seen))
-      same ends.stretch in
-      let stretch : Stretches model store left begins.origin.state [] begins.origin.state =
-      subst (λ (xs : List Step). Stretches model store left begins.origin.state xs
-      (after begins.origin.state xs)) begins.seen
-      (subst (λ (x : StoreTerm D). Stretches model x left begins.origin.state (known old).seen
-      (after begins.origin.state (known old).seen)) begins.store_is from_origin) in
-      subst (Narrows model a) (sym (is ∙ ap (λ (j : Standing D). j.disk) (stretch.untouched tt))) read
-
-  -- the other disk is as it was
-  pub other_disk : (left : StoreTerm D) (new : HallPass D) → Ends model new left
-      → (known new).origin ≡ (known old).origin → left.b ≡ store.b
-  other_disk left new ends origin =
-      let same : ends.origin ≡ begins.origin =
-      one_origin ends.origin begins.origin (sym ends.of ∙ (origin ∙ begins.of)) in
-      ends.stretch.other ∙ ap (λ (x : StoreTerm D). x.b) (ap (λ (o : Origin D). o.store) same ∙ begins.store_is)

@@ -1,16 +1,17 @@
 -- What is left where ends were served, and where none was.
-use Rattle.std.proofs.Common.{◌≡◌, ◌∙◌, ℕ, List, Option, map, refl, sym, subst, inl, inr, arith}
+use Rattle.std.proofs.Common.{◌≡◌, ◌⊎◌, ℕ, List, Option, map, refl, sym, subst, inl, inr, arith}
 use Rattle.std.specs.Prelude.{All}
 use Rattle.std.specs.List.{AllZip}
-use Rattle.disk_edge.specs.Disk.{DiskModel, Faulted, IfTold}
+use Rattle.disk_edge.specs.Disk.{DiskModel, Faulted}
+use Rattle.journal_core.specs.Fronts.{IsOpen}
 use Rattle.journal_core.specs.Looks.{Narrows}
-use Rattle.journal_core.specs.Records.{IsNoJournal}
 use Rattle.journal_core.specs.declared.faults.LoadFault.{LoadFault}
 use Rattle.journal_core.specs.declared.faults.LoadFault.TheVariants as fault
 use Rattle.serve_ends.specs.declared.end.End.{End}
 use Rattle.serve_ends.specs.declared.status.TheConstants.{NO_MEMORY}
 use Rattle.store_disk.specs.Loads.{Damages}
 use Rattle.store_disk.specs.declared.disks.Disks.{Disks}
+use Rattle.chem_shell.specs.Contents.{IfBothTell, disks_of}
 use Rattle.chem_shell.specs.Done.{IsDone, Leaves}
 use Rattle.chem_shell.specs.Ends.{with_status}
 use Rattle.chem_shell.specs.Loading.{HasCauses, HasEndCauses, IsCausedBy}
@@ -31,16 +32,15 @@ module _ {D S K : Type 0} (model : DiskModel D) (left : S → Option (List ℕ))
       → plan.command ≡ verb → LeavesBy verb plan disks ends r
       → AllZip (HasEndCauses left source_faults sink_faults) ends r.ends.items
       → All IsOfEnd (map (λ (end : End S K). end.status) r.ends.items)
-      → r.status ≡ first_fault (map (λ (end : End S K). end.status) r.ends.items) → r.place ≡ 0 → r.b ≡ disks.b
+      → r.status ≡ first_fault (map (λ (end : End S K). end.status) r.ends.items) → r.place ≡ 0
       → IsDone model left source_faults written sink_faults plan disks ends r
-  served_done plan verb disks ends r command leaves causes statuses status place other =
+  served_done plan verb disks ends r command leaves causes statuses status place =
       let own = subst IsOfEnd (sym status) (first_is IsOfEnd (inl (inl refl)) _ statuses) in
       record {
         leaves = leaves_by model left source_faults written sink_faults verb plan.command plan disks ends r
             (sym command) leaves;
-        causes = no_disk_causes model disks.a r.a r.status r.place own place;
+        causes = no_disk_causes model disks (disks_of r) r.status r.place own place;
         end_causes = causes;
-        other = other;
         overall = λ _. status;
         status = no_usage r.status own;
       }
@@ -48,16 +48,15 @@ module _ {D S K : Type 0} (model : DiskModel D) (left : S → Option (List ℕ))
   -- `serve`: the store was not loaded, or memory ran out before any end was served
   pub refused_done : (plan : Plan) (disks : Disks D) (ends : List (End S K)) (r : Outcome D S K)
       → plan.command ≡ Serve → IsLoadStatus r.status → r.ends.items ≡ map (with_status r.status) ends
-      → Narrows model disks.a r.a → HasCauses model disks.a r.a r.status r.place → r.b ≡ disks.b
+      → Narrows model disks.a r.a → Narrows model disks.b r.b → HasCauses model disks (disks_of r) r.status r.place
       → IsDone model left source_faults written sink_faults plan disks ends r
-  refused_done plan disks ends r command load alike read causes other = record {
+  refused_done plan disks ends r command load alike read_a read_b causes = record {
     leaves = leaves_by model left source_faults written sink_faults Serve plan.command plan disks ends r (sym command)
-        (inl (refused_all model left source_faults written sink_faults disks.a r.a r.status ends r.ends.items load read
-        alike));
+        (inl (refused_all model left source_faults written sink_faults disks (disks_of r) r.status ends r.ends.items
+        load read_a read_b alike));
     causes = causes;
     end_causes = zip_mapped (HasEndCauses left source_faults sink_faults) (with_status r.status)
         (load_causes left source_faults sink_faults r.status load) ends r.ends.items alike;
-    other = other;
     overall = λ some. sym (first_of_alike ends r.ends.items r.status some alike);
     status = never_loaded_usage r.status load;
   }
@@ -70,30 +69,31 @@ load_of (fault.Damaged at) n place is = inr (inr (inl is.0))
 load_of fault.NoMemory n place is = inr (inr (inr is.0))
 
 -- and its causes
-pub causes_of : {D : Type 0} (model : DiskModel D) (a a' : D) (why : LoadFault) (n place : ℕ) → IsCausedBy why n place
-    → (why ≡ fault.NotAStore → IfTold (model.content a) IsNoJournal)
-    → ((at : ℕ) → why ≡ fault.Damaged at → IfTold (model.content a) (Damages at))
-    → (why ≡ fault.Disk → Faulted model a a')
-    → HasCauses model a a' n place
-causes_of model a a' fault.Disk n place is header damaged disk = record {
+pub causes_of : {D : Type 0} (model : DiskModel D) (disks disks' : Disks D) (why : LoadFault) (n place : ℕ)
+    → IsCausedBy why n place
+    → (why ≡ fault.NotAStore → IfBothTell model disks (λ x y. (¬ IsOpen x) × (¬ IsOpen y)))
+    → ((at : ℕ) → why ≡ fault.Damaged at → IfBothTell model disks (Damages at))
+    → (why ≡ fault.Disk → Faulted model disks.a disks'.a ⊎ Faulted model disks.b disks'.b)
+    → HasCauses model disks disks' n place
+causes_of model disks disks' fault.Disk n place is header damaged disk = record {
   disk_fault = λ _. disk refl;
   not_a_store = λ e. absurd (omega (arith, is, e));
   damaged = λ e. absurd (omega (arith, is, e));
   undamaged = λ _. is.1;
 }
-causes_of model a a' fault.NotAStore n place is header damaged disk = record {
+causes_of model disks disks' fault.NotAStore n place is header damaged disk = record {
   disk_fault = λ e. absurd (omega (arith, is, e));
   not_a_store = λ _. header refl;
   damaged = λ e. absurd (omega (arith, is, e));
   undamaged = λ _. is.1;
 }
-causes_of model a a' (fault.Damaged at) n place is header damaged disk = record {
+causes_of model disks disks' (fault.Damaged at) n place is header damaged disk = record {
   disk_fault = λ e. absurd (omega (arith, is, e));
   not_a_store = λ e. absurd (omega (arith, is, e));
-  damaged = λ _. subst (λ (p : ℕ). IfTold (model.content a) (Damages p)) (sym is.1) (damaged at refl);
+  damaged = λ _. subst (λ (p : ℕ). IfBothTell model disks (Damages p)) (sym is.1) (damaged at refl);
   undamaged = λ no. absurd (no is.0);
 }
-causes_of model a a' fault.NoMemory n place is header damaged disk = record {
+causes_of model disks disks' fault.NoMemory n place is header damaged disk = record {
   disk_fault = λ e. absurd (omega (arith, is, e));
   not_a_store = λ e. absurd (omega (arith, is, e));
   damaged = λ e. absurd (omega (arith, is, e));
@@ -101,8 +101,9 @@ causes_of model a a' fault.NoMemory n place is header damaged disk = record {
 }
 
 -- want of memory says nothing of a disk
-pub memory_causes : {D : Type 0} (model : DiskModel D) (a a' : D) → HasCauses model a a' NO_MEMORY 0
-memory_causes model a a' = record {
+pub memory_causes : {D : Type 0} (model : DiskModel D) (disks disks' : Disks D)
+    → HasCauses model disks disks' NO_MEMORY 0
+memory_causes model disks disks' = record {
   disk_fault = λ e. absurd (omega (arith, e));
   not_a_store = λ e. absurd (omega (arith, e));
   damaged = λ e. absurd (omega (arith, e));
@@ -113,16 +114,16 @@ memory_causes model a a' = record {
 pub refused_by : {D S K : Type 0} (model : DiskModel D) (left : S → Option (List ℕ)) (source_faults : S → ℕ)
     (written : K → Option (List ℕ)) (sink_faults : K → ℕ) (plan : Plan) (disks now : Disks D) (ends : List (End S K))
     (r : Outcome D S K) (n place : ℕ) → plan.command ≡ Serve → IsLoadStatus n
-    → Narrows model disks.a now.a → HasCauses model disks.a now.a n place → now.b ≡ disks.b
-    → r.status ≡ n → r.place ≡ place → r.a ≡ now.a → r.b ≡ now.b → r.ends.items ≡ map (with_status n) ends
+    → Narrows model disks.a now.a → Narrows model disks.b now.b → HasCauses model disks now n place
+    → r.status ≡ n → r.place ≡ place → disks_of r ≡ now → r.ends.items ≡ map (with_status n) ends
     → IsDone model left source_faults written sink_faults plan disks ends r
-refused_by model left source_faults written sink_faults plan disks now ends r n place command load read causes other
-    status at a b alike =
+refused_by model left source_faults written sink_faults plan disks now ends r n place command load read_a read_b causes
+    status at is alike =
     refused_done model left source_faults written sink_faults plan disks ends r command
     (subst IsLoadStatus (sym status) load)
     (subst (λ (k : ℕ). r.ends.items ≡ map (with_status k) ends) (sym status) alike)
-    (subst (Narrows model disks.a) (sym a) read)
-    (subst (λ (k : ℕ). HasCauses model disks.a r.a k r.place) (sym status)
-    (subst (HasCauses model disks.a r.a n) (sym at)
-    (subst (λ x. HasCauses model disks.a x n place) (sym a) causes)))
-    (b ∙ other)
+    (subst (λ (x : Disks _). Narrows model disks.a x.a) (sym is) read_a)
+    (subst (λ (x : Disks _). Narrows model disks.b x.b) (sym is) read_b)
+    (subst (λ (k : ℕ). HasCauses model disks (disks_of r) k r.place) (sym status)
+    (subst (HasCauses model disks (disks_of r) n) (sym at)
+    (subst (λ x. HasCauses model disks x n place) (sym is) causes)))

@@ -15,7 +15,7 @@ use Rattle.chem_shell.specs.Done.{Leaves}
 use Rattle.chem_shell.specs.Status.{first_fault, IsEndStatus, IsLoadStatus}
 use Rattle.chem_shell.specs.Ends.{with_status}
 use Rattle.chem_shell.specs.Loading.{HasCauses, HasEndCauses}
-use Rattle.chem_shell.specs.OnDisk.{IsRefused}
+use Rattle.chem_shell.specs.OnDisks.{IsRefused}
 
 pub zip_weaker : {A B : Type 0} (R Q : A → B → Type 0) → ((x : A) (y : B) → R x y → Q x y) → (xs : List A) (ys : List B)
     → AllZip R xs ys → AllZip Q xs ys
@@ -96,9 +96,9 @@ load_causes left source_faults sink_faults n is end = record {
 }
 
 -- statuses of ends alone say nothing of a disk
-pub no_disk_causes : {D : Type 0} (model : DiskModel D) (a a' : D) (n place : ℕ) → IsOfEnd n → place ≡ 0
-    → HasCauses model a a' n place
-no_disk_causes model a a' n place is none = record {
+pub no_disk_causes : {D : Type 0} (model : DiskModel D) (disks disks' : Disks D) (n place : ℕ) → IsOfEnd n → place ≡ 0
+    → HasCauses model disks disks' n place
+no_disk_causes model disks disks' n place is none = record {
   disk_fault = λ e. absurd (of_no_disk n is (omega (arith, e)) (omega (arith, e)));
   not_a_store = λ e. absurd (of_no_disk n is (omega (arith, e)) (omega (arith, e)));
   damaged = λ e. absurd (of_no_disk n is (omega (arith, e)) (omega (arith, e)));
@@ -116,8 +116,9 @@ module _ {D S K : Type 0} (model : DiskModel D) (left : S → Option (List ℕ))
   leaves_by v w plan disks ends r e l = subst (λ (x : Verb). LeavesBy x plan disks ends r) e l
 
   -- where no end was served by `run` or `serve`
-  pub refused_all : (a a' : D) (n : ℕ) (old new : List (End S K)) → IsLoadStatus n → Narrows model a a'
-      → new ≡ map (with_status n) old → AllZip (IsRefused model a a') old new
-  refused_all a a' n old new status read is =
-      zip_mapped (IsRefused model a a') (with_status n)
-      (λ end. record { status = status; end = refl; disk = read }) old new is
+  pub refused_all : (disks disks' : Disks D) (n : ℕ) (old new : List (End S K)) → IsLoadStatus n
+      → Narrows model disks.a disks'.a → Narrows model disks.b disks'.b → new ≡ map (with_status n) old
+      → AllZip (IsRefused model disks disks') old new
+  refused_all disks disks' n old new status read_a read_b is =
+      zip_mapped (IsRefused model disks disks') (with_status n)
+      (λ end. record { status = status; end = refl; disk_a = read_a; disk_b = read_b }) old new is

@@ -1,141 +1,64 @@
--- A store that was opened stands for no other state without pins than one that was just opened.
-use Rattle.std.proofs.Common.{◌≡◌, ◌∙◌, ◌++◌, ◌∷◌, ◌≤◌, ◌<◌, ap, arith, Contains, inl, inr, List, [], map, MatchOption, None, Option, option_map, Some, refl, subst, sym, true, false, ℕ}
-use Rattle.std.proofs.lemmas.List.Elements.{Contains-push, Contains-push_cases}
-use Rattle.std.specs.FinMap.{get}
+-- What the disks of a store that was just opened open to.
+use Rattle.std.proofs.Common.{◌≡◌, ◌∙◌, ap, inl, inr, List, None, Option, Some, subst, sym, ℕ}
 use Rattle.disk_edge.specs.Disk.{DiskModel}
-use Rattle.store_core.specs.Kept.{HasEntry}
-use Rattle.store_core.specs.Stored as memory
-use Rattle.store_disk.specs.OnDisk.{Has, StandsFor, StoreTerm}
-use Rattle.store_disk.specs.Payloads.{payload, payloads}
-use Rattle.store_machine.specs.History.{head, made_at, snapshot}
-use Rattle.store_machine.specs.Kept.{IsNeeded, copied, in_use}
-use Rattle.store_machine.specs.Machine.{AreNeeded}
-use Rattle.store_machine.specs.Laws.{KeptIsRead}
-use Rattle.store_machine.specs.Made.{IsKept, ReadsKept}
+use Rattle.disk_pair.specs.Term.{OfEachPair, disk_a, disk_b}
+use Rattle.journal_core.specs.Looks.{Narrows}
+use Rattle.store_disk.specs.Loads.{OpensAfter, OpensTo}
+use Rattle.store_disk.specs.OnDisk.{StandsFor, StoreTerm}
+use Rattle.store_disk.specs.declared.disks.Disks.{Disks}
+use Rattle.store_machine.specs.History.{rebase}
+use Rattle.store_machine.specs.Machine.{MayFinish, Recovers, on_disk}
 use Rattle.store_machine.specs.Openings.{IsOpened}
-use Rattle.store_machine.specs.declared.machine.Change.{Change}
-use Rattle.store_machine.specs.declared.machine.Copying.{Copying}
-use Rattle.store_machine.specs.declared.machine.Entry.{Entry}
-use Rattle.store_machine.specs.declared.machine.Held.{Held}
+use Rattle.store_machine.specs.Rebases.{RebasesStay}
+use Rattle.store_machine.specs.declared.machine.History.{History}
 use Rattle.store_machine.specs.declared.machine.State.{State}
-use Rattle.store_machine.specs.declared.machine.Status.{Status}
+use Rattle.chem_shell.specs.Contents.{IfBothTell}
 
-none_in : {X : Type 0} (x : X) → Contains [] x → ⊥
-none_in x c = omega (arith, c.1)
+none_is_some : {X : Type 0} (x : X) → None ≡ Some x → ⊥
+none_is_some x e = cc e
 
--- the versions in use where a copy runs or none
-abbrev used_with : State → Option Copying → List ℕ
-used_with s copy = map (λ (p : Held). p.version) s.pins ++ (copied copy ++ head s.history ∷ [])
+not_some : {X : Type 0} (o : Option X) (x : X) → o ≡ None → o ≡ Some x → ⊥
+not_some o x none some = none_is_some x (sym none ∙ some)
 
--- without pins and a copy the head alone is in use
-head_alone : (s : State) (v : ℕ) → s.pins ≡ [] → s.copy ≡ None → Contains (in_use s) v → v ≡ head s.history
-head_alone s v none uncopied used =
-    let versions = map (λ (p : Held). p.version) s.pins in
-    elim (Contains-push_cases versions (head s.history) v
-    (subst (λ (o : Option Copying). Contains (used_with s o) v) uncopied used)) [
-      | inl pinned ↦
-          absurd (none_in v (subst (λ (ps : List Held). Contains (map (λ (p : Held). p.version) ps) v) none pinned))
-      | inr is ↦ sym is
-    ]
+never_finishes : (commits : ℕ) (s : State) (version : ℕ) → IsOpened commits s → MayFinish s version → ⊥
+never_finishes commits s version opened (inl finish) = not_some s.finish version opened.finish finish
+never_finishes commits s version opened (inr whole) =
+    not_some s.copy (record { version = version; left = 0 }) opened.copy whole
 
-same_status : (x y : Status) → Some x ≡ Some y → x ≡ y
-same_status x y e = cc e
+-- what may be recovered of a state as an opening leaves it is its history
+recovers_all : RebasesStay → (commits : ℕ) (s : State) (h : History) (generation : ℕ) → IsOpened commits s
+    → on_disk s ≡ s.history → Recovers s h generation → (h ≡ s.history) × (generation ≡ s.generation)
+recovers_all stay commits s h generation opened whole (inl now) = (now.0 ∙ whole, now.1)
+recovers_all stay commits s h generation opened whole (inr (inl doubted)) =
+    absurd (not_some s.doubt doubted.0 opened.doubt doubted.1)
+recovers_all stay commits s h generation opened whole (inr (inr copied)) =
+    absurd (never_finishes commits s copied.0 opened copied.1)
 
-module _ (law : KeptIsRead) (store : memory.StoreTerm) (s t : State) (a : memory.IsAt store s) (b : memory.IsAt store t)
-    (needed : AreNeeded s s.kept) (unpinned : s.pins ≡ []) where
-  -- what is kept of the one is kept of the other
-  kept_of_s : (e : Entry) → Contains t.kept e → Contains s.kept e
-  kept_of_s e c = (a.stands.kept.exactly e).1 ((b.stands.kept.exactly e).0 c)
-
-  -- each kept entry is the head's, which was made at this version
-  made_by : (e : Entry) → Contains t.kept e
-      → (status : Status) × (get (snapshot s.history (head s.history)) e.id ≡ Some status)
-      × (made_at status ≡ e.version)
-  made_by e c =
-      let n = (needed.exactly e).0 (kept_of_s e c) in
-      let at = head_alone s n.at unpinned a.copy n.used in
-      (n.status, subst (λ (v : ℕ). get (snapshot s.history v) e.id ≡ Some n.status) at n.state, n.made)
-
-  one_entry : (id v w : ℕ) → IsKept t id v → IsKept t id w → v ≡ w
-  one_entry id v w first second =
-      let x = made_by (record { id = id; version = v }) first in
-      let y = made_by (record { id = id; version = w }) second in
-      sym x.2 ∙ (ap made_at (same_status x.0 y.0 (sym x.1 ∙ y.1)) ∙ y.2)
-
-  -- no later than the head
-  before_head : (e : Entry) → Contains t.kept e → e.version ≤ head t.history
-  before_head e c =
-      let h : HasEntry store.kept.chains e = (b.stands.kept.exactly e).0 c in
-      subst (λ (v : ℕ). v ≤ head t.history) h.2 ((b.stands.chains e.id).late h.0 h.1)
-
-  needed_by_t : (e : Entry) → Contains t.kept e → IsNeeded t.history (in_use t) e
-  needed_by_t e c = by_state (get (snapshot t.history (head t.history)) e.id) refl
-    where
-      used : Contains (in_use t) (head t.history)
-      used = subst (λ (o : Option Copying). Contains (used_with t o) (head t.history)) (sym b.copy)
-          (Contains-push (map (λ (p : Held). p.version) t.pins) (head t.history))
-
-      reads : ReadsKept t (head t.history) e.id
-      reads = law t (head t.history) e.id b.sound b.serves used
-
-      by_state : (now : Option Status) → get (snapshot t.history (head t.history)) e.id ≡ now
-          → IsNeeded t.history (in_use t) e
-      by_state None is =
-          let later = subst (λ (o : Option Status). MatchOption o
-          ((version : ℕ) → IsKept t e.id version → head t.history < version)
-          (λ status. IsKept t e.id (made_at status) × (made_at status ≤ head t.history)
-          × ((version : ℕ) → IsKept t e.id version → version ≤ head t.history → version ≤ made_at status)))
-          is reads in
-          absurd (omega (arith, later e.version c, before_head e c))
-      by_state (Some status) is =
-          let now = subst (λ (o : Option Status). MatchOption o
-          ((version : ℕ) → IsKept t e.id version → head t.history < version)
-          (λ status. IsKept t e.id (made_at status) × (made_at status ≤ head t.history)
-          × ((version : ℕ) → IsKept t e.id version → version ≤ head t.history → version ≤ made_at status)))
-          is reads in
-          record {
-            at = head t.history;
-            used = used;
-            status = status;
-            state = is;
-            made = one_entry e.id (made_at status) e.version now.0 c;
-          }
-
-  needed_kept : AreNeeded t t.kept
-  needed_kept = record {
-    exactly = λ e. (needed_by_t e, b.sound.kept b.serves e);
-    distinct = b.stands.kept.distinct;
-  }
-
--- where nothing is in doubt of a state for which a store stands, nothing is of any other
-pub no_doubt : {D : Type 0} (model : DiskModel D) (store : StoreTerm D) (s t : State) → StandsFor model store s
-    → s.doubt ≡ None → StandsFor model store t → t.doubt ≡ None
-no_doubt model store s t stands doubt other = by_doubt t.doubt refl
-  where
-    settled : store.journal.doubt ≡ false
-    settled = (subst (λ (d : Option Change). Has model store.journal (payloads s.history) (option_map payload d)) doubt
-        stands.journal).0
-
-    apart : false ≡ true → ⊥
-    apart e = cc e
-
-    by_doubt : (d : Option Change) → t.doubt ≡ d → t.doubt ≡ None
-    by_doubt None is = is
-    by_doubt (Some c) is =
-        let has = subst (λ (d : Option Change). Has model store.journal (payloads t.history) (option_map payload d)) is
-        other.journal in
-        absurd (apart (sym settled ∙ has.0))
-
-pub one_opened : KeptIsRead → {D : Type 0} (model : DiskModel D) (n : ℕ) (store : StoreTerm D) (s t : State)
-    → IsOpened n s → StandsFor model store s → StandsFor model store t → t.pins ≡ [] → IsOpened n t
-one_opened law model n store s t opened stands other unpinned = record {
-  serves = other.memory.serves;
-  limit = sym other.memory.stands.limit ∙ (stands.memory.stands.limit ∙ opened.limit);
-  pins = unpinned;
-  base = other.base;
-  copy = other.memory.copy;
-  finish = other.memory.finish;
-  doubt = no_doubt model store s t stands opened.doubt other;
-  kept = needed_kept law store.memory s t stands.memory other.memory
-      (record { exactly = opened.kept.exactly; distinct = opened.kept.distinct }) opened.pins;
+-- a state without pins as an opening leaves it, with the limit of the store that stands for it
+pub opened_in : {D : Type 0} (model : DiskModel D) (n commits : ℕ) (store : StoreTerm D) (s t : State)
+    → IsOpened commits s → StandsFor model store s → StandsFor model store t → IsOpened n t → IsOpened commits t
+opened_in model n commits store s t first stands other opened = record {
+  serves = opened.serves;
+  limit = sym other.memory.stands.limit ∙ (stands.memory.stands.limit ∙ first.limit);
+  pins = opened.pins;
+  base = opened.base;
+  copy = opened.copy;
+  doubt = opened.doubt;
+  finish = opened.finish;
+  kept = opened.kept;
 }
+
+-- what reads of disks gave that were only read since is what they open to
+pub opens_at : RebasesStay → {D : Type 0} (model : DiskModel D)
+    (read : (d : D) (l : List ℕ) → model.content d ≡ Some l → model.images d l)
+    (store : StoreTerm D) (s : State) → OfEachPair model store.pair (OpensAfter s) → StandsFor model store s
+    → (commits : ℕ) → IsOpened commits s
+    → (disks : Disks D) → Narrows model disks.a (disk_a store.pair) → Narrows model disks.b (disk_b store.pair)
+    → IfBothTell model disks (OpensTo s.history s.generation)
+opens_at stay model read store s standing stands commits opened disks read_a read_b l is m it =
+    let told_a = read_a.same ∙ is in
+    let told_b = read_b.same ∙ it in
+    let o = standing l told_a m told_b l m (read (disk_a store.pair) l told_a) (read (disk_b store.pair) m told_b) in
+    let whole = ap (λ (d : ℕ). rebase s.history d) opened.base ∙ stay s.history stands.memory.sound.history in
+    let all = recovers_all stay commits s o.0 o.1 opened whole o.2 in
+    subst (λ (g : ℕ). OpensTo s.history g l m) all.1 (subst (λ (h : History). OpensTo h o.1 l m) all.0 o.3)

@@ -4,6 +4,7 @@ use Rattle.std.specs.List.{AllByRecursion}
 use Rattle.disk_edge.specs.Failures.{bound_of}
 use Rattle.disk_edge.specs.Medium.{Medium, model}
 use Rattle.disk_edge.specs.MediumLaws.{within}
+use Rattle.disk_pair.specs.Term.{disk_a, disk_b}
 use Rattle.session_run.specs.Cursors.{Calls}
 use Rattle.store_core.specs.Calls as core
 use Rattle.store_core.specs.Calls.{NotAbove, NotRaised}
@@ -134,18 +135,18 @@ InMemory = Stretches model
 
 -- the bounds that the two disks tell
 abbrev pub bounds : StoreTerm Medium → Option ℕ × Option ℕ
-bounds store = (bound_of store.journal.disk.failures, bound_of store.b.failures)
+bounds store = (bound_of (disk_a store.pair).failures, bound_of (disk_b store.pair).failures)
 
 -- the calls of a session over a store that begins empty, without failures set
 pub of_calls : (commits : ℕ) (old new : StoreTerm Medium) (calls : Calls)
-    → bound_of old.journal.disk.failures ≡ Some 0 → bound_of old.b.failures ≡ Some 0
+    → bound_of (disk_a old.pair).failures ≡ Some 0 → bound_of (disk_b old.pair).failures ≡ Some 0
     → NotRaised (bounds old) (bounds new) → (made : core.Calls InMemory (λ _. true) old new (empty commits) calls)
     → (run : AreOfRun commits calls) × (run.last ≡ made.after)
 of_calls commits old new calls none_a none_b kept made =
     let bound_a = not_above_none (bounds old).0 (bounds new).0 none_a kept.0 in
     let bound_b = not_above_none (bounds old).1 (bounds new).1 none_b kept.1 in
-    let few_a = within new.journal.disk 0 bound_a in
-    let few_b = within new.b 0 bound_b in
+    let few_a = within (disk_a new.pair) 0 bound_a in
+    let few_b = within (disk_b new.pair) 0 bound_b in
     let a : made.after.faults.a ≡ 0 =
     (let is = ap (λ (f : Faults). f.a) made.stands.ends.counts in omega (arith, few_a, is)) in
     let b : made.after.faults.b ≡ 0 =

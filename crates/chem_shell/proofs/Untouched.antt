@@ -2,16 +2,17 @@
 use Rattle.std.proofs.Common.{◌≡◌, ◌⊎◌, ◌∙◌, List, Option, ℕ, arith, refl, sym, ap, subst, inl, inr}
 use Rattle.disk_edge.specs.Disk.{DiskModel, Same}
 use Rattle.journal_core.specs.Looks.{Narrows, Stays}
+use Rattle.store_disk.specs.declared.disks.Disks.{Disks}
 use Rattle.chem_shell.specs.Ends.{ServesBulk, ServesScript, with_status}
 use Rattle.session_run.specs.Cursors.{Calls}
 use Rattle.std.specs.List.{AllZip}
-use Rattle.chem_shell.specs.OnDisk.{AreAtDesks, AreOnDisk, Creates, IsRefused, RunsOn, ServesOn}
+use Rattle.chem_shell.specs.OnDisks.{AreAtDesks, AreOnDisks, Creates, IsRefused, RunsOn, ServesOn}
 use Rattle.chem_shell.specs.declared.request.Plan.{Plan}
 use Rattle.serve_ends.specs.declared.end.End.{End}
 use Rattle.chem_shell.proofs.Asked.{SamePlan}
 use Rattle.chem_shell.proofs.Summaries as summaries
 
-pub stays_same : {D : Type 0} (model : DiskModel D) (a a' : D) → a' ≡ a → Stays model a a'
+stays_same : {D : Type 0} (model : DiskModel D) (a a' : D) → a' ≡ a → Stays model a a'
 stays_same model a a' same = (
   ap model.content same,
   subst (λ d. Same (model.images a) (model.images d)) (sym same)
@@ -19,9 +20,10 @@ stays_same model a a' same = (
 )
 
 -- the same run, by the commits of a plan that asks for the same
-abbrev on_same : {D : Type 0} (model : DiskModel D) (p q : Plan) (a a' b : D) (calls : Calls)
-    → p.commits ≡ q.commits → AreOnDisk model q.commits a a' b calls → AreOnDisk model p.commits a a' b calls
-on_same model p q a a' b calls commits on = record {
+abbrev on_same : {D : Type 0} (model : DiskModel D) (p q : Plan) (disks disks' : Disks D) (calls : Calls)
+    → p.commits ≡ q.commits → AreOnDisks model q.commits disks disks' calls
+    → AreOnDisks model p.commits disks disks' calls
+on_same model p q disks disks' calls commits on = record {
   first = on.first;
   steps = on.steps;
   last = on.last;
@@ -45,7 +47,8 @@ on_same model p q a a' b calls commits on = record {
   later = on.later;
   clocked = on.clocked;
   now = on.now;
-  loading = on.loading;
+  loading_a = on.loading_a;
+  loading_b = on.loading_b;
   moments = on.moments;
   left = on.left;
   causes = on.causes;
@@ -53,45 +56,46 @@ on_same model p q a a' b calls commits on = record {
   ends = on.ends;
 }
 
-module _ {D S K : Type 0} (model : DiskModel D) where
-  pub refused_unmoved : (a a' : D) → Narrows model a a' → (end : End S K)
-      → IsRefused model a a' end (with_status 8 end)
-  refused_unmoved a a' read end = record { status = inr (inr (inr refl)); end = refl; disk = read }
+module _ {D S K : Type 0} (model : DiskModel D) (disks disks' : Disks D) where
+  pub refused_unmoved : Narrows model disks.a disks'.a → Narrows model disks.b disks'.b → (end : End S K)
+      → IsRefused model disks disks' end (with_status 8 end)
+  refused_unmoved read_a read_b end =
+      record { status = inr (inr (inr refl)); end = refl; disk_a = read_a; disk_b = read_b }
 
-  pub runs_same : (left : S → Option (List ℕ)) (written : K → Option (List ℕ)) (p q : Plan) (a a' b : D)
-      (old new : End S K)
+  pub runs_same : (left : S → Option (List ℕ)) (written : K → Option (List ℕ)) (p q : Plan) (old new : End S K)
       → p.commits ≡ q.commits → p.page ≡ q.page
-      → IsRefused model a a' old new ⊎ RunsOn model left written q a a' b old new
-      → IsRefused model a a' old new ⊎ RunsOn model left written p a a' b old new
-  runs_same left written p q a a' b old new commits page (inl r) = inl r
-  runs_same left written p q a a' b old new commits page (inr r) = inr (record {
+      → IsRefused model disks disks' old new ⊎ RunsOn model left written q disks disks' old new
+      → IsRefused model disks disks' old new ⊎ RunsOn model left written p disks disks' old new
+  runs_same left written p q old new commits page (inl r) = inl r
+  runs_same left written p q old new commits page (inr r) = inr (record {
     calls = r.calls;
-    on = on_same model p q a a' b r.calls commits r.on;
+    on = on_same model p q disks disks' r.calls commits r.on;
     script = subst (λ (k : ℕ). ServesScript left written k r.calls r.on.last.history old new) (sym page) r.script;
   })
 
-  pub serves_same : (left : S → Option (List ℕ)) (written : K → Option (List ℕ)) (p q : Plan) (a a' b : D)
-      (old new : List (End S K))
-      → p.commits ≡ q.commits → p.page ≡ q.page
-      → AllZip (IsRefused model a a') old new ⊎ ServesOn model left written q a a' b old new
-      → AllZip (IsRefused model a a') old new ⊎ ServesOn model left written p a a' b old new
-  serves_same left written p q a a' b old new commits page (inl r) = inl r
-  serves_same left written p q a a' b old new commits page (inr r) = inr (record {
+  pub serves_same : (left : S → Option (List ℕ)) (written : K → Option (List ℕ)) (p q : Plan)
+      (old new : List (End S K)) → p.commits ≡ q.commits → p.page ≡ q.page
+      → AllZip (IsRefused model disks disks') old new ⊎ ServesOn model left written q disks disks' old new
+      → AllZip (IsRefused model disks disks') old new ⊎ ServesOn model left written p disks disks' old new
+  serves_same left written p q old new commits page (inl r) = inl r
+  serves_same left written p q old new commits page (inr r) = inr (record {
     calls = r.calls;
-    on = on_same model p q a a' b r.calls commits r.on;
+    on = on_same model p q disks disks' r.calls commits r.on;
     each = subst (λ (k : ℕ). AreAtDesks left written k r.on.steps r.on.last.history 1 old new) (sym page) r.each;
     owners = r.owners;
     worn = r.worn;
   })
 
--- where memory ran out before anything was done, `init` leaves the disk as it was
-pub creates_nothing : {D : Type 0} (model : DiskModel D) (a a' : D) (status : ℕ) → status ≡ 8 → a' ≡ a
-    → Creates model a a' status
-creates_nothing model a a' status is same = record {
+-- where memory ran out before anything was done, `init` leaves the disks as they were
+pub creates_nothing : {D : Type 0} (model : DiskModel D) (disks disks' : Disks D) (status : ℕ) → status ≡ 8
+    → disks' ≡ disks → Creates model disks disks' status
+creates_nothing model disks disks' status is same = record {
   status_is = inr (inr (inl is));
   done = λ e. absurd (omega (arith, is, e));
+  done_b = λ e. absurd (omega (arith, is, e));
   not_empty = λ e. absurd (omega (arith, is, e));
-  stays = λ e. stays_same model a a' same;
+  stays = λ e. stays_same model disks.a disks'.a (ap (λ (d : Disks _). d.a) same);
+  stays_b = stays_same model disks.b disks'.b (ap (λ (d : Disks _). d.b) same);
   kept = λ e. absurd (omega (arith, is, e));
 }
 

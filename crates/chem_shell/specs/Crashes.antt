@@ -1,8 +1,8 @@
--- For callers: what a crash leaves of a store on a disk at a moment of a step of a run.
-use Rattle.std.specs.Prelude.{◌≡◌, ◌⊎◌, ◌++◌, ℕ, List, [], ◌∷◌, Some}
+-- For callers: what a crash leaves of a store on two disks at a moment of a step of a run.
+use Rattle.std.specs.Prelude.{◌≡◌, ◌⊎◌, ◌++◌, ◌+◌, ℕ, List, [], ◌∷◌, Some}
 use Rattle.store_disk.specs.Loads.{OpensTo}
-use Rattle.store_machine.specs.History.{grown}
-use Rattle.store_machine.specs.Machine.{MayAdd}
+use Rattle.store_machine.specs.History.{grown, rebase}
+use Rattle.store_machine.specs.Machine.{MayAdd, MayFinish}
 use Rattle.store_machine.specs.Told.{acknowledged}
 use Rattle.store_machine.specs.declared.machine.Change.{Change}
 use Rattle.store_machine.specs.declared.machine.Event.TheVariants.{Commit}
@@ -15,9 +15,18 @@ abbrev pub IsAtMostOne : Step → List Change → Type 0
 IsAtMostOne x more = (more ≡ []) ⊎ ((c : Change) × (more ≡ c ∷ [])
     × ((x.before.doubt ≡ Some c) ⊎ ((x.event ≡ Commit c) × MayAdd x.before c)))
 
--- The image opens to the history from before the run, each commit that was acknowledged by the steps before this one, in
--- order, and after them at most one that was not
-pub record ShowsAt (first : State) (before : List Step) (x : Step) (image : List ℕ) : Type 0 where
+-- The base and the generation are those from before the step, or those of a copy whose finish is in doubt or under way,
+-- and then there is no such commit
+abbrev pub IsBasedAt : Step → List Change → ℕ → ℕ → Type 0
+IsBasedAt x more base generation = ((base ≡ x.before.base) × (generation ≡ x.before.generation))
+    ⊎ (MayFinish x.before base × (generation ≡ x.before.generation + 1) × (more ≡ []))
+
+-- The two images open to the history from before the run, each commit that was acknowledged by the steps before this
+-- one, in order, and after them at most one that was not; all this from the base on
+pub record ShowsAt (first : State) (before : List Step) (x : Step) (p q : List ℕ) : Type 0 where
   pub more : List Change
   pub one : IsAtMostOne x more
-  pub opens : OpensTo (grown first.history (acknowledged before ++ more)) image
+  pub base : ℕ
+  pub generation : ℕ
+  pub based : IsBasedAt x more base generation
+  pub opens : OpensTo (rebase (grown first.history (acknowledged before ++ more)) base) generation p q

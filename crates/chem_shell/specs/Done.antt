@@ -5,10 +5,11 @@ use Rattle.disk_edge.specs.Disk.{DiskModel}
 use Rattle.serve_ends.specs.declared.end.End.{End}
 use Rattle.serve_ends.specs.declared.serve.TheConstants.{MOST_ENDS}
 use Rattle.store_disk.specs.declared.disks.Disks.{Disks}
+use Rattle.chem_shell.specs.Contents.{disks_of}
 use Rattle.chem_shell.specs.Drills.{ServesDrill}
 use Rattle.chem_shell.specs.Ends.{ServesBulk, ServesMem}
 use Rattle.chem_shell.specs.Loading.{HasCauses, HasEndCauses}
-use Rattle.chem_shell.specs.OnDisk.{Creates, IsRefused, RunsOn, ServesOn}
+use Rattle.chem_shell.specs.OnDisks.{Creates, IsRefused, RunsOn, ServesOn}
 use Rattle.chem_shell.specs.Status.{first_fault}
 use Rattle.chem_shell.specs.declared.outcome.Outcome.{Outcome}
 use Rattle.chem_shell.specs.declared.request.Plan.{Plan}
@@ -29,20 +30,19 @@ module _ {D S K : Type 0} (model : DiskModel D) (left : S → Option (List ℕ))
     (written : K → Option (List ℕ)) (sink_faults : K → ℕ) where
   -- what each command leaves of the ends and of the disks
   abbrev pub Leaves : Verb → Plan → Disks D → List (End S K) → Outcome D S K → Type 0
-  Leaves Mem plan disks ends r = (r.a ≡ disks.a) × AllZip (ServesMem plan left written) ends r.ends.items
-  Leaves Init plan disks ends r = (r.ends.items ≡ []) × Creates model disks.a r.a r.status
-  Leaves Run plan disks ends r = AllZip (λ old new. IsRefused model disks.a r.a old new
-      ⊎ RunsOn model left written plan disks.a r.a disks.b old new) ends r.ends.items
-  Leaves Serve plan disks ends r = AllZip (IsRefused model disks.a r.a) ends r.ends.items
-      ⊎ ServesOn model left written plan disks.a r.a disks.b ends r.ends.items
-  Leaves Bulk plan disks ends r = (r.a ≡ disks.a) × AllZip (ServesBulk plan written) ends r.ends.items
-  Leaves Drill plan disks ends r = (r.a ≡ disks.a) × AllZip (ServesDrill plan left written) ends r.ends.items
+  Leaves Mem plan disks ends r = (disks_of r ≡ disks) × AllZip (ServesMem plan left written) ends r.ends.items
+  Leaves Init plan disks ends r = (r.ends.items ≡ []) × Creates model disks (disks_of r) r.status
+  Leaves Run plan disks ends r = AllZip (λ old new. IsRefused model disks (disks_of r) old new
+      ⊎ RunsOn model left written plan disks (disks_of r) old new) ends r.ends.items
+  Leaves Serve plan disks ends r = AllZip (IsRefused model disks (disks_of r)) ends r.ends.items
+      ⊎ ServesOn model left written plan disks (disks_of r) ends r.ends.items
+  Leaves Bulk plan disks ends r = (disks_of r ≡ disks) × AllZip (ServesBulk plan written) ends r.ends.items
+  Leaves Drill plan disks ends r = (disks_of r ≡ disks) × AllZip (ServesDrill plan left written) ends r.ends.items
 
   -- and the causes of the statuses
   pub record IsDone (plan : Plan) (disks : Disks D) (ends : List (End S K)) (r : Outcome D S K) : Type 0 where
     pub leaves : Leaves plan.command plan disks ends r
-    pub causes : HasCauses model disks.a r.a r.status r.place
+    pub causes : HasCauses model disks (disks_of r) r.status r.place
     pub end_causes : AllZip (HasEndCauses left source_faults sink_faults) ends r.ends.items
-    pub other : r.b ≡ disks.b
     pub overall : 1 ≤ length ends → r.status ≡ first_fault (map (λ end. end.status) r.ends.items)
     pub status : r.status ≢ USAGE

@@ -5,7 +5,8 @@ pub mod Status
 pub mod Serving
 pub mod Ends
 pub mod Drills
+pub mod Contents
 pub mod Crashes
-pub mod OnDisk
+pub mod OnDisks
 pub mod Loading
 pub mod Done

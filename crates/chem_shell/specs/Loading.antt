@@ -1,22 +1,24 @@
 -- For private clauses alone: the causes of the statuses.
-use Rattle.std.specs.Prelude.{◌≡◌, ◌≢◌, ℕ, List, Option}
-use Rattle.disk_edge.specs.Disk.{DiskModel, Faulted, IfTold}
+use Rattle.std.specs.Prelude.{◌≡◌, ◌≢◌, ◌⊎◌, ℕ, List, Option}
+use Rattle.disk_edge.specs.Disk.{DiskModel, Faulted}
 use Rattle.io_edge.specs.Faults.{Rose}
-use Rattle.journal_core.specs.Records.{IsNoJournal}
+use Rattle.journal_core.specs.Fronts.{IsOpen}
 use Rattle.journal_core.specs.declared.faults.LoadFault.{LoadFault}
 use Rattle.journal_core.specs.declared.faults.LoadFault.TheVariants as fault
 use Rattle.session_run.specs.Served.{TakesExactly}
 use Rattle.store_disk.specs.Loads.{Damages}
+use Rattle.store_disk.specs.declared.disks.Disks.{Disks}
 use Rattle.serve_ends.specs.declared.end.End.{End}
+use Rattle.chem_shell.specs.Contents.{IfBothTell}
 use Rattle.chem_shell.specs.declared.settings.TheConstants.{INPUT_LIMIT}
 use Rattle.serve_ends.specs.declared.status.TheConstants.{NO_MEMORY, SOURCE_FAULT, SINK_FAULT, INPUT_TOO_LONG}
 use Rattle.chem_shell.specs.declared.status.TheConstants.{DISK_FAULT, NOT_A_STORE, DAMAGED}
 
 -- the causes of the statuses that come of a disk
-pub record HasCauses {D : Type 0} (model : DiskModel D) (a a' : D) (status place : ℕ) : Type 0 where
-  pub disk_fault : status ≡ DISK_FAULT → Faulted model a a'
-  pub not_a_store : status ≡ NOT_A_STORE → IfTold (model.content a) IsNoJournal
-  pub damaged : status ≡ DAMAGED → IfTold (model.content a) (Damages place)
+pub record HasCauses {D : Type 0} (model : DiskModel D) (old new : Disks D) (status place : ℕ) : Type 0 where
+  pub disk_fault : status ≡ DISK_FAULT → Faulted model old.a new.a ⊎ Faulted model old.b new.b
+  pub not_a_store : status ≡ NOT_A_STORE → IfBothTell model old (λ x y. (¬ IsOpen x) × (¬ IsOpen y))
+  pub damaged : status ≡ DAMAGED → IfBothTell model old (Damages place)
   pub undamaged : status ≢ DAMAGED → place ≡ 0
 
 -- the status and the place of a loading that was refused so

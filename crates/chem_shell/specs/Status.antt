@@ -17,12 +17,12 @@ IsSinkStatus status = (status ≡ DONE) ⊎ ((status ≡ SINK_FAULT) ⊎ (status
 abbrev pub IsInputStatus : ℕ → Type 0
 IsInputStatus status = (status ≡ SOURCE_FAULT) ⊎ (status ≡ INPUT_TOO_LONG)
 
--- a creation: done, a fault of the disk, want of memory, a disk that is not empty
+-- a creation: done, a fault of a disk, want of memory, a disk that is not empty
 abbrev pub IsCreationStatus : ℕ → Type 0
 IsCreationStatus status =
     (status ≡ DONE) ⊎ ((status ≡ DISK_FAULT) ⊎ ((status ≡ NO_MEMORY) ⊎ (status ≡ NOT_EMPTY)))
 
--- a loading that is refused: a fault of the disk, no store, a damaged one, want of memory
+-- a loading that is refused: a fault of a disk, no store, a damaged one, want of memory
 abbrev pub IsLoadStatus : ℕ → Type 0
 IsLoadStatus status =
     (status ≡ DISK_FAULT) ⊎ ((status ≡ NOT_A_STORE) ⊎ ((status ≡ DAMAGED) ⊎ (status ≡ NO_MEMORY)))

@@ -1,13 +1,16 @@
-//! `init` and `run`: a store on disk `a`.
+//! `init` and `run`: a store on two disks.
 ghost use Rattle.std.specs.Prelude.{◌≡◌, ◌≢◌, ◌⊎◌};
-ghost use Rattle.disk_edge.specs.Disk.{Faulted, IfTold};
+ghost use Rattle.disk_edge.specs.Disk.{Faulted};
+ghost use Rattle.disk_pair.specs.Term.{disk_a, disk_b};
 ghost use Rattle.journal_core.specs.Looks.{Narrows};
 ghost use Rattle.store_disk.specs.Loads.{OpensTo};
 ghost use Rattle.store_disk.specs.OnDisk.{StandsFor};
+ghost use Rattle.store_disk.specs.declared.disks.Disks.{Disks as TheDisks};
 ghost use Rattle.store_machine.specs.Openings.{IsOpened};
 ghost use Rattle.store_machine.specs.declared.machine.State.{State};
+ghost use Rattle.chem_shell.specs.Contents.{IfBothTell};
 ghost use Rattle.chem_shell.specs.Loading.{HasCauses, HasEndCauses, IsCausedBy};
-ghost use Rattle.chem_shell.specs.OnDisk.{Creates, IsRefused, RunsOn};
+ghost use Rattle.chem_shell.specs.OnDisks.{Creates, IsRefused, RunsOn};
 ghost use Rattle.chem_shell.specs.Status.{IsEndStatus};
 ghost use Rattle.chem_shell.specs.Words.{IsWithinLimits};
 
@@ -23,13 +26,21 @@ use session_run::{services_are_true, session};
 use std::alloc::Global;
 use std::thread::Threads;
 use store_disk::{Disks, Store, a_standing_store_opens};
-use store_machine::replies_tell;
+use store_machine::{rebases_keep, replies_tell, runs_stay_sound};
 
-/// Makes an empty store on an empty disk. The disk comes back, with the status.
-pub fn create<D: Disk + Drop>(a: D) -> (D, u8)
-    ensures creates { Creates D.model a result.0 result.1 }
-    ensures disk_fault { result.1 ≡ DISK_FAULT → Faulted D.model a result.0 }
+/// Makes an empty store on two empty disks: it is on disk `a`, and disk `b` stays empty. The disks come back, with the
+/// status.
+pub fn create<D: Disk + Drop>(disks: Disks<D>) -> (Disks<D>, u8)
+    ensures creates { Creates D.model disks result.0 result.1 }
+    ensures disk_fault { result.1 ≡ DISK_FAULT
+        → Faulted D.model disks.a result.0.a ⊎ Faulted D.model disks.b result.0.b }
 {
+    let Disks { a, mut b } = disks;
+    match b.len() {
+        Ok(0) => {}
+        Ok(_) => return (Disks { a, b }, NOT_EMPTY),
+        Err(_) => return (Disks { a, b }, DISK_FAULT),
+    }
     let (a, created) = Journal::create(a);
     let status = match created {
         Ok(()) => DONE,
@@ -37,10 +48,10 @@ pub fn create<D: Disk + Drop>(a: D) -> (D, u8)
         Err(CreateFault::NotEmpty) => NOT_EMPTY,
         Err(CreateFault::NoMemory) => NO_MEMORY,
     };
-    (a, status)
+    (Disks { a, b }, status)
 }
 
-/// Serves an end over the store of disk `a`. The disks come back, with the place of damage on `a`.
+/// Serves an end over the store of two disks. The disks come back, with the place of damage on the one that is read.
 pub fn serve_run<R: Threads + Sync, D: Disk + Drop, S: Source + Drop, K: Sink + Drop>(
     rt: &R,
     alloc: Global,
@@ -49,12 +60,11 @@ pub fn serve_run<R: Threads + Sync, D: Disk + Drop, S: Source + Drop, K: Sink + 
     end: &mut End<S, K>,
 ) -> (Disks<D>, u64)
     requires { IsWithinLimits plan.now }
-    ensures serves { IsRefused D.model disks.a result.0.a end.old end.new
-        ⊎ RunsOn D.model S.left K.written plan.now disks.a result.0.a disks.b end.old end.new }
+    ensures serves { IsRefused D.model disks result.0 end.old end.new
+        ⊎ RunsOn D.model S.left K.written plan.now disks result.0 end.old end.new }
     ensures ends { HasEndCauses S.left S.faults K.faults end.old end.new }
     ensures status { end.new.status ≢ USAGE }
-    ensures causes { HasCauses D.model disks.a result.0.a end.new.status result.1 }
-    ensures other { result.0.b ≡ disks.b }
+    ensures causes { HasCauses D.model disks result.0 end.new.status result.1 }
 {
     match Store::load(alloc, disks, plan.commits) {
         Ok(store) => (serve_loaded(rt, alloc, plan, store, end), 0),
@@ -75,17 +85,17 @@ fn serve_loaded<R: Threads + Sync, D: Disk + Drop, S: Source + Drop, K: Sink + D
     end: &mut End<S, K>,
 ) -> Disks<D>
     requires { IsWithinLimits plan.now }
-    ensures runs { (a : D) (s : State) → StandsFor D.model store s
-        → IsOpened plan.now.commits s → IfTold (D.model.content a) (OpensTo s.history)
-        → Narrows D.model a store.journal.disk → RunsOn D.model S.left K.written plan.now
-        a result.a store.b end.old end.new }
+    ensures runs { (disks : TheDisks D) (s : State) → StandsFor D.model store s
+        → IsOpened plan.now.commits s → IfBothTell D.model disks (OpensTo s.history s.generation)
+        → Narrows D.model disks.a (disk_a store.pair) → Narrows D.model disks.b (disk_b store.pair)
+        → RunsOn D.model S.left K.written plan.now disks result end.old end.new }
     ensures status { IsEndStatus end.new.status }
     ensures ends { HasEndCauses S.left S.faults K.faults end.old end.new }
-    ensures other { (s : State) → StandsFor D.model store s → result.b ≡ store.b }
 {
     services_are_true();
     replies_tell();
-    a_standing_store_opens::<D>();
+    runs_stay_sound();
+    rebases_keep();
     let mut store = store;
     let ended = session(
         rt,
@@ -97,6 +107,7 @@ fn serve_loaded<R: Threads + Sync, D: Disk + Drop, S: Source + Drop, K: Sink + D
         &NoMeter,
     );
     end.status = end_status(ended);
+    a_standing_store_opens(&store);
     store.into_disks()
 }
 

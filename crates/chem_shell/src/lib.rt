@@ -2,8 +2,8 @@
 //!
 //! The words are read by a table of commands into a plan. `mem` is one session over a store in memory; `bulk` runs a
 //! generated script on one and puts the summary of its transcript; `drill` is sixteen sessions on one, whose disk is
-//! stopped or failed and which is opened again, as its lines say. `init` makes an empty store on disk `a`; `run` is one
-//! session over the store that is there, and `serve` several at a time.
+//! stopped or failed and which is opened again, as its lines say. `init` makes an empty store on two disks; `run` is
+//! one session over the store that is there, and `serve` several at a time.
 #![tactic(auto)]
 
 mod bulk;

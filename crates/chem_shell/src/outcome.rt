@@ -1,6 +1,7 @@
 //! What the top call leaves.
 ghost use Rattle.std.specs.Prelude.{◌≡◌, map};
 ghost use Rattle.journal_core.specs.Looks.{Narrows};
+ghost use Rattle.chem_shell.specs.Contents.{disks_of};
 ghost use Rattle.chem_shell.specs.Ends.{with_status};
 ghost use Rattle.chem_shell.specs.Status.{first_fault};
 
@@ -25,8 +26,7 @@ impl<D: Drop, S: Drop, K: Drop> Outcome<D, S, K> {
     pub(crate) fn served(place: u64, disks: Disks<D>, ends: Vec<End<S, K>>) -> Outcome<D, S, K>
         ensures status { result.status ≡ first_fault (map (λ end. end.status) ends.items) }
         ensures place { result.place ≡ place }
-        ensures disk_a { result.a ≡ disks.a }
-        ensures disk_b { result.b ≡ disks.b }
+        ensures disks { disks_of result ≡ disks }
         ensures ends { result.ends ≡ ends }
     {
         Outcome {
@@ -49,9 +49,9 @@ impl<D: Disk + Drop, S: Drop, K: Drop> Outcome<D, S, K> {
     ) -> Outcome<D, S, K>
         ensures status { result.status ≡ status }
         ensures place { result.place ≡ place }
-        ensures disk_a { result.a ≡ disks.a }
-        ensures disk_b { result.b ≡ disks.b }
-        ensures read { Narrows D.model disks.a result.a }
+        ensures disks { disks_of result ≡ disks }
+        ensures read_a { Narrows D.model disks.a result.a }
+        ensures read_b { Narrows D.model disks.b result.b }
         ensures ends { result.ends.items ≡ map (with_status status) ends.items }
     {
         set_status(&mut ends, status);

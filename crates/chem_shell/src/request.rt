@@ -7,11 +7,11 @@ use thiserror::Error;
 pub enum Verb {
     /// One session over a store in memory.
     Mem,
-    /// An empty store is made on disk `a`. No end is served.
+    /// An empty store is made on two disks. No end is served.
     Init,
-    /// One session over the store of disk `a`.
+    /// One session over the store of two disks.
     Run,
-    /// Several sessions at a time over the store of disk `a`.
+    /// Several sessions at a time over the store of two disks.
     Serve,
     /// A generated script on a store in memory, and the summary of its transcript.
     Bulk,

@@ -1,10 +1,10 @@
-//! `serve`: many ends at a time over the store of disk `a`, each at a desk of one hall.
-ghost use Rattle.std.specs.Prelude.{◌≡◌, ◌≤◌, [], length};
-ghost use Rattle.disk_edge.specs.Disk.{IfTold};
+//! `serve`: many ends at a time over the store of two disks, each at a desk of one hall.
+ghost use Rattle.std.specs.Prelude.{◌≡◌, ◌≤◌, length};
+ghost use Rattle.disk_pair.specs.Term.{disk_a, disk_b};
 ghost use Rattle.journal_core.specs.Looks.{Narrows};
 ghost use Rattle.serve_ends.specs.declared.serve.TheConstants.{MOST_ENDS};
-ghost use Rattle.store_disk.specs.Loads.{OpensTo};
 ghost use Rattle.store_disk.specs.OnDisk.{StandsFor};
+ghost use Rattle.store_disk.specs.declared.disks.Disks.{Disks as TheDisks};
 ghost use Rattle.store_machine.specs.Openings.{IsOpened};
 ghost use Rattle.store_machine.specs.declared.machine.State.{State};
 ghost use Rattle.chem_shell.specs.Done.{IsDone};
@@ -26,9 +26,9 @@ use std::alloc::Global;
 use std::sync::Wait;
 use std::thread::Threads;
 use store_disk::{Disks, Store, a_standing_store_opens};
-use store_machine::{kept_is_read, replies_tell};
+use store_machine::{rebases_keep, replies_tell, runs_stay_sound};
 
-/// Serves ends at the same time over the store of disk `a`, each in a thread of its own.
+/// Serves ends at the same time over the store of two disks, each in a thread of its own.
 pub fn serve_many<
     R: Threads + Wait + Sync,
     D: Disk + Send + Drop,
@@ -61,17 +61,16 @@ fn serve_loaded<
     requires verb { plan.now.command ≡ command.Serve }
     requires some { 1 ≤ length ends.items }
     requires few { length ends.items ≤ MOST_ENDS }
-    requires standing { (s : State) × StandsFor D.model store s × (s.pins ≡ []) }
-    ensures { (a : D) (s : State) → StandsFor D.model store s
-        → IsOpened plan.now.commits s → IfTold (D.model.content a) (OpensTo s.history)
-        → IfTold (D.model.content store.journal.disk) (D.model.images store.journal.disk)
-        → Narrows D.model a store.journal.disk
-        → IsDone D.model S.left S.faults K.written K.faults plan.now (record { a = a; b = store.b }) ends.items result }
+    requires standing { (s : State) × StandsFor D.model store s × IsOpened plan.now.commits s }
+    ensures { (disks : TheDisks D) → Narrows D.model disks.a (disk_a store.pair)
+        → Narrows D.model disks.b (disk_b store.pair)
+        → IsDone D.model S.left S.faults K.written K.faults plan.now disks ends.items result }
 {
     services_are_true();
     replies_tell();
-    kept_is_read();
-    a_standing_store_opens::<D>();
+    runs_stay_sound();
+    rebases_keep();
+    a_standing_store_opens(&store);
     match Hall::start(alloc, store) {
         Ok((hall, mut pass)) => {
             let (ends, served) = serve_ends(
@@ -83,7 +82,9 @@ fn serve_loaded<
                 &settings(plan),
                 &NoMeter,
             );
-            let disks = hall.close(pass).into_disks();
+            let store = hall.close(pass);
+            a_standing_store_opens(&store);
+            let disks = store.into_disks();
             match served {
                 Ok(()) => Outcome::served(0, disks, ends),
                 Err(_) => Outcome::unserved(NO_MEMORY, 0, disks, ends),

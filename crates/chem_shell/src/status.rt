@@ -5,14 +5,14 @@ pub use serve_ends::{DONE, INPUT_TOO_LONG, NO_MEMORY, SINK_FAULT, SOURCE_FAULT, 
 /// The words ask for nothing that is known.
 pub const USAGE: u8 = 2;
 
-/// Disk `a` failed as a store was made there or loaded.
+/// A disk failed as a store was made or loaded.
 pub const DISK_FAULT: u8 = 5;
 
-/// Disk `a` has no store.
+/// Neither disk has a store.
 pub const NOT_A_STORE: u8 = 6;
 
-/// The store of disk `a` is damaged.
+/// The store is damaged, on the disk that is read.
 pub const DAMAGED: u8 = 7;
 
-/// Disk `a` has bytes already, and no store was made there.
+/// A disk has bytes already, and no store was made.
 pub const NOT_EMPTY: u8 = 10;

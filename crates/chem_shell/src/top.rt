@@ -1,15 +1,16 @@
 //! The top call: the words, the ends and the disks in, and what became of them out.
 ghost use Rattle.std.specs.Prelude.{◌≡◌, ◌≢◌, ◌≤◌, ◌⊎◌, [], false, length, map, true};
 ghost use Rattle.std.specs.List.{AllZip};
-ghost use Rattle.disk_edge.specs.Disk.{Faulted, IfTold};
+ghost use Rattle.disk_edge.specs.Disk.{Faulted};
 ghost use Rattle.io_edge.specs.Faults.{Rose};
-ghost use Rattle.journal_core.specs.Records.{IsNoJournal};
+ghost use Rattle.journal_core.specs.Fronts.{IsOpen};
 ghost use Rattle.session_run.specs.Served.{TakesExactly};
 ghost use Rattle.store_disk.specs.Loads.{Damages};
+ghost use Rattle.chem_shell.specs.Contents.{IfBothTell, disks_of};
 ghost use Rattle.chem_shell.specs.Drills.{ServesDrill};
 ghost use Rattle.chem_shell.specs.Ends.{ServesBulk, ServesMem, with_status};
 ghost use Rattle.chem_shell.specs.Done.{HasEnds, IsDone};
-ghost use Rattle.chem_shell.specs.OnDisk.{Creates, IsRefused, RunsOn, ServesOn};
+ghost use Rattle.chem_shell.specs.OnDisks.{Creates, IsRefused, RunsOn, ServesOn};
 ghost use Rattle.chem_shell.specs.Status.{first_fault};
 ghost use Rattle.chem_shell.specs.declared.request.Plan.{Plan as ThePlan};
 ghost use Rattle.chem_shell.specs.Words.{texts, Asks, AsksFor, IsWithinLimits, OnPlan};
@@ -36,9 +37,9 @@ use store_disk::Disks;
 
 /// The program over the objects that it is handed: what the words ask for is done with the ends and the disks, and the
 /// statuses say how it ended. `mem` serves one end by a session over a store in memory, and `run` over the store of
-/// disk `a`; `serve` serves several at the same time over that store; `bulk` puts a summary to one; `drill` serves one
-/// by sessions on a store in memory whose disk is stopped, failed and reopened; `init` makes a store on disk `a`, and
-/// has no end. Disk `b` is not used yet.
+/// both disks; `serve` serves several at the same time over that store; `bulk` puts a summary to one; `drill` serves
+/// one by sessions on a store in memory whose disk is stopped, failed and reopened; `init` makes a store on both disks,
+/// and has no end.
 pub fn chemdb<
     R: Threads + Wait + Sync,
     D: Disk + Send + Drop,
@@ -53,9 +54,7 @@ pub fn chemdb<
     ensures no_plan { ¬ Asks (texts words.now) → (result.status ≡ USAGE) ⊎ (result.status ≡ NO_MEMORY) }
     ensures no_plan_takes_nothing { ¬ Asks (texts words.now)
         → result.ends.items ≡ map (with_status result.status) ends.items }
-    ensures no_plan_disk { ¬ Asks (texts words.now) → result.a ≡ a }
-
-    ensures disk_b { result.b ≡ b }
+    ensures no_plan_disks { ¬ Asks (texts words.now) → (result.a ≡ a) × (result.b ≡ b) }
 
     // Where an end is served, the overall status is the first that is not 0.
     ensures overall { Asks (texts words.now) → 1 ≤ length ends.items
@@ -71,52 +70,55 @@ pub fn chemdb<
         new.status ≡ INPUT_TOO_LONG → TakesExactly (S.left old.source) (S.left new.source) INPUT_LIMIT)
         ends.items result.ends.items }
 
-    // A fault of the disk comes only where it failed in this call. It has no store where its bytes have no header, and
-    // the place of damage is that of its bytes.
-    ensures disk_fault { result.status ≡ DISK_FAULT → Faulted D.model a result.a }
-    ensures not_a_store { result.status ≡ NOT_A_STORE → IfTold (D.model.content a) IsNoJournal }
-    ensures damaged { result.status ≡ DAMAGED → IfTold (D.model.content a) (Damages result.place) }
+    // A fault of a disk comes only where one failed in this call. There is no store where neither disk is open, and the
+    // place of damage is that of the bytes that are read.
+    ensures disk_fault { result.status ≡ DISK_FAULT → Faulted D.model a result.a ⊎ Faulted D.model b result.b }
+    ensures not_a_store { result.status ≡ NOT_A_STORE → IfBothTell D.model (record { a = a; b = b })
+        (λ x y. (¬ IsOpen x) × (¬ IsOpen y)) }
+    ensures damaged { result.status ≡ DAMAGED
+        → IfBothTell D.model (record { a = a; b = b }) (Damages result.place) }
     ensures place { result.status ≢ DAMAGED → result.place ≡ 0 }
 
     // `mem`: what was written is a prefix of a transcript of the source's bytes, by pages of the plan, in a run of a
     // store in memory that begins empty and may have the plan's commits; all of one where the status is 0, and then the
     // source was read to its end. Where the source failed or its bytes are too many, exactly the requests that are
     // whole in the bytes that were taken were answered.
-    ensures mem { OnPlan (texts words.now) Verb.Mem (λ plan. (result.a ≡ a)
+    ensures mem { OnPlan (texts words.now) Verb.Mem (λ plan. (disks_of result ≡ record { a = a; b = b })
         × AllZip (ServesMem plan S.left K.written) ends.items result.ends.items) }
 
-    // `init`: where it is done, the disk was empty, and has the empty store. A disk that has bytes is as before, and so
-    // is any where memory ran out.
+    // `init`: where it is done, both disks were empty, and `a` has the empty store. Where one has bytes both are as
+    // before, and so are any where memory ran out.
     ensures init { OnPlan (texts words.now) Verb.Init (λ _. (result.ends.items ≡ [])
-        × Creates D.model a result.a result.status) }
+        × Creates D.model (record { a = a; b = b }) (disks_of result) result.status) }
 
-    // `run`: where the store was not loaded, nothing was taken or put, and the disk was only read. Else what was
-    // written is a prefix of a transcript, as for `mem`, in a run that begins with the commits of the disk. A crash at
-    // any moment of a step leaves each commit that was acknowledged before it, in order, and at most one more; and
-    // afterwards the disk has the run's history. A disk fault comes only where the disk counted one in that commit.
+    // `run`: where the store was not loaded, nothing was taken or put, and the disks were only read. Else what was
+    // written is a prefix of a transcript, as for `mem`, in a run that begins with the history of both disks. A crash
+    // at any moment of a step leaves each commit that was acknowledged before it, in order, and at most one more; and
+    // afterwards the disks have the run's history. A disk fault comes only where a disk counted one in that commit.
     ensures run { OnPlan (texts words.now) Verb.Run (λ plan. AllZip (λ old new.
-        IsRefused D.model a result.a old new
-        ⊎ RunsOn D.model S.left K.written plan a result.a b old new)
+        IsRefused D.model (record { a = a; b = b }) (disks_of result) old new
+        ⊎ RunsOn D.model S.left K.written plan (record { a = a; b = b }) (disks_of result) old new)
         ends.items result.ends.items) }
 
     // `serve`: where the store was not loaded, or memory ran out before any end was served, nothing was taken or put,
-    // and the disk was only read. Else there is one run on the disk, as for `run`. Each end has one owner's steps of it,
-    // numbered from 1 in the order of the ends, and no step is another's; what was written to an end is a prefix of a
-    // transcript by its steps.
+    // and the disks were only read. Else there is one run on the disks, as for `run`. Each end has one owner's steps of
+    // it, numbered from 1 in the order of the ends, and no step is another's; what was written to an end is a prefix of
+    // a transcript by its steps.
     ensures serve { OnPlan (texts words.now) Verb.Serve (λ plan.
-        AllZip (IsRefused D.model a result.a) ends.items result.ends.items
-        ⊎ ServesOn D.model S.left K.written plan a result.a b ends.items result.ends.items) }
+        AllZip (IsRefused D.model (record { a = a; b = b }) (disks_of result)) ends.items result.ends.items
+        ⊎ ServesOn D.model S.left K.written plan (record { a = a; b = b }) (disks_of result)
+        ends.items result.ends.items) }
 
     // `bulk`: nothing is taken. What was written is the summary of a transcript of the generated script, in such a run
     // as for `mem`; a prefix of one where the sink failed; nothing where memory ran out.
-    ensures bulk { OnPlan (texts words.now) Verb.Bulk (λ plan. (result.a ≡ a)
+    ensures bulk { OnPlan (texts words.now) Verb.Bulk (λ plan. (disks_of result ≡ record { a = a; b = b })
         × AllZip (ServesBulk plan K.written) ends.items result.ends.items) }
 
     // `drill`: what was written is a prefix of a drill of the source's bytes, by pages of the plan, in a run of a store
     // in memory that begins empty and may have the plan's commits, with a crash and an opening for each reopening; all
     // of one where the status is 0. Each session's searches, cursors, lookups and watches that ended told exactly what
     // the run's history has. A disk fault comes only where the lines `stop` and `fail` before it allow it.
-    ensures drill { OnPlan (texts words.now) Verb.Drill (λ plan. (result.a ≡ a)
+    ensures drill { OnPlan (texts words.now) Verb.Drill (λ plan. (disks_of result ≡ record { a = a; b = b })
         × AllZip (ServesDrill plan S.left K.written) ends.items result.ends.items) }
 {
     let disks = Disks { a, b };
@@ -148,7 +150,7 @@ fn carry_out<
     }
 }
 
-// `init`: makes an empty store on disk `a`.
+// `init`: makes an empty store on two disks.
 fn init<D: Disk + Drop, S: Source + Drop, K: Sink + Drop>(
     disks: Disks<D>,
     ends: Vec<End<S, K>>,
@@ -157,8 +159,7 @@ fn init<D: Disk + Drop, S: Source + Drop, K: Sink + Drop>(
     ensures { (plan : ThePlan) → plan.command ≡ Verb.Init
         → IsDone D.model S.left S.faults K.written K.faults plan disks ends.items result }
 {
-    let Disks { a, b } = disks;
-    let (a, status) = create(a);
+    let (Disks { a, b }, status) = create(disks);
     Outcome {
         status,
         place: 0,
@@ -219,7 +220,7 @@ fn drill<R: Threads + Sync, D: Disk + Drop, S: Source + Drop, K: Sink + Drop>(
     Outcome::served(0, disks, ends)
 }
 
-// `run`: serves the one end over the store of disk `a`.
+// `run`: serves the one end over the store of two disks.
 fn run<R: Threads + Sync, D: Disk + Drop, S: Source + Drop, K: Sink + Drop>(
     rt: &R,
     alloc: Global,

@@ -8,7 +8,7 @@ mod files;
 mod tests;
 
 use crate::files::script_ends;
-use chem_shell::{End, Outcome, PlanFault, Verb, chemdb, plan, status, word_fault};
+use chem_shell::{End, Outcome, Plan, PlanFault, Verb, chemdb, plan, status, word_fault};
 use disk_edge::FileDisk;
 use io_edge::{StdSink, StdSource};
 use std::alloc::{AllocError, Global};
@@ -26,7 +26,8 @@ usage: chemdb COMMAND [OPTIONS]
 
 commands
   mem              serve the script of standard input over a store in memory
-  init FILE        make an empty store in a file that is not there or is empty
+  init FILE        make an empty store in a file that is not there or is empty; its second file,
+                   FILE.2, is made beside it
   run FILE         serve the script of standard input over the store in the file
   serve FILE SCRIPT..
                    serve 1 to 16 scripts at the same time over the store in the file; the
@@ -88,8 +89,8 @@ where
     Ok(status)
 }
 
-/// The ends are the scripts that the words name, and their replies, or else standard input and output. The disk is the
-/// file that the words name: `init` makes it where it is not there. Where the file is damaged, it says from which byte on.
+/// The ends are the scripts that the words name, and their replies, or else standard input and output. Where the store is
+/// damaged, it says from which byte on.
 fn serve<R: AllocGlobal + Files<File = File> + Input + Print + Eprint + Threads + Wait + Sync>(
     rt: &R,
     alloc: Global,
@@ -103,11 +104,7 @@ where
         Err(PlanFault::Usage) => return Ok(status::USAGE),
         Err(PlanFault::NoMemory) => return Err(AllocError),
     };
-    let a = match plan.file {
-        Some(path) => FileDisk::at(rt, path, plan.command == Verb::Init),
-        None => FileDisk::none(),
-    };
-    let b = FileDisk::none();
+    let (a, b) = disks(rt, alloc, &plan)?;
     match plan.command {
         Verb::Serve => {
             let ends = script_ends(rt, alloc, &plan.scripts)?;
@@ -120,7 +117,23 @@ where
     }
 }
 
-/// The overall status of an outcome. Where the file is damaged, it prints from which byte on.
+/// The disks of the store that the words name: its file, which `init` makes where it is not there, and the file of its
+/// name with `.2` appended, which is made where it is not there.
+fn disks<R: Files<File = File>>(
+    rt: &R,
+    alloc: Global,
+    plan: &Plan<'_>,
+) -> Result<(FileDisk, FileDisk), AllocError> {
+    let Some(path) = plan.file else {
+        return Ok((FileDisk::none(), FileDisk::none()));
+    };
+    let second = format!(in alloc; "{path}.2")?;
+    let a = FileDisk::at(rt, path, plan.command == Verb::Init);
+    let b = FileDisk::at(rt, second.as_str(), true);
+    Ok((a, b))
+}
+
+/// The overall status of an outcome. Where the store is damaged, it prints from which byte on.
 fn status_told<R: Eprint, D: Drop, S: Drop, K: Drop>(rt: &R, outcome: Outcome<D, S, K>) -> u8 {
     if outcome.status == status::DAMAGED {
         let place = outcome.place;

@@ -1,8 +1,7 @@
 -- A drill: what is done with a world from its making on, reopenings included. For callers.
 use Rattle.std.specs.Prelude.{◌≡◌, ◌+◌, ◌++◌, ◌-◌, ◌<◌, ◌≤◌, ◌^◌, Bool, List, [], Some, false, true, ℕ}
-use Rattle.disk_edge.specs.Failures.{bound_of}
 use Rattle.disk_edge.specs.Medium.{Medium, model}
-use Rattle.store_core.specs.Calls.{NotAbove}
+use Rattle.store_core.specs.Calls.{NotRaised}
 use Rattle.store_machine.specs.Openings.{reopening}
 use Rattle.store_machine.specs.Runs.{IsRun}
 use Rattle.store_machine.specs.declared.machine.State.{State}
@@ -11,31 +10,32 @@ use Rattle.store_machine.specs.declared.machine.Times.{Times}
 use Rattle.store_disk.specs.InMemory.{StandsInMemory}
 use Rattle.store_disk.specs.OnDisk.{StoreTerm}
 use Rattle.store_disk.specs.Stored.{Stretches}
-use Rattle.drill_core.specs.Faults.{disk_faults, failed}
-use Rattle.drill_core.specs.Worlds.{Reopens, failing, stopping}
+use Rattle.drill_core.specs.Faults.{CanCount, disk_faults, failed}
+use Rattle.drill_core.specs.Worlds.{HasNoFailures, Reopens, bounds_of, failing, stopping}
 
 -- All steps so far are a run, to a state for which the world stands. In the last part of them, since the making or the
--- last reopening, a stop was set or none, and so many failures; each answer that the disk failed stands for a call of
--- the disk that failed.
+-- last reopening, a stop was set on disk `a` or none, and so many failures, and nothing on disk `b`; each answer that a
+-- disk failed stands for a call of one of them that failed.
 pub record IsDrill (world : StoreTerm Medium) (first now : State) (steps part : List Step) (stopped : Bool) (fails : ℕ)
     : Type 0 where
   pub run : IsRun first steps now
   pub last : (before : List Step) × (steps ≡ before ++ part)
   pub stands : StandsInMemory world now
-  pub counted : failed world < 2 ^ 64 - 1 → disk_faults part ≤ failed world
-  pub bounded : stopped ≡ false → (n : ℕ) × (bound_of world.journal.disk.failures ≡ Some n) × (n ≤ fails)
+  pub counted : CanCount world → disk_faults part ≤ failed world
+  pub bounded : stopped ≡ false → (n : ℕ) × ((bounds_of world).0 ≡ Some n) × (n ≤ fails)
+  pub none_on_b : (bounds_of world).1 ≡ Some 0
 
 -- it begins with a world without failures
 abbrev pub DrillsBegin : Type 0
 DrillsBegin = (world : StoreTerm Medium) (s : State) → StandsInMemory world s
-    → bound_of world.journal.disk.failures ≡ Some 0 → IsDrill world s s [] [] false 0
+    → HasNoFailures world → IsDrill world s s [] [] false 0
 
 -- it goes on by calls
 abbrev pub DrillsCall : Type 0
 DrillsCall = (old new : StoreTerm Medium) (first s t : State) (steps part more : List Step) (stopped : Bool)
     (fails : ℕ)
     → IsDrill old first s steps part stopped fails → Stretches model old new s more t
-    → NotAbove (bound_of old.journal.disk.failures) (bound_of new.journal.disk.failures)
+    → NotRaised (bounds_of old) (bounds_of new)
     → IsDrill new first t (steps ++ more) (part ++ more) stopped fails
 
 -- by a failure and by a stop, which are set
@@ -52,12 +52,11 @@ DrillsStop = (world : StoreTerm Medium) (first s : State) (steps part : List Ste
 -- and by reopenings
 abbrev pub DrillsReopen : Type 0
 DrillsReopen = (old new : StoreTerm Medium) (first s : State) (steps part : List Step) (stopped : Bool) (fails : ℕ)
-    (bytes : List ℕ) (count : ℕ) (at begin end : Times)
-    → IsDrill old first s steps part stopped fails → (r : Reopens s bytes new count)
-    → bound_of new.journal.disk.failures ≡ Some 0
+    (a b : List ℕ) (count : ℕ) (at begin end : Times)
+    → IsDrill old first s steps part stopped fails → (r : Reopens s a b new count) → HasNoFailures new
     → IsDrill new first r.after (steps ++ reopening s r.after at begin end) [] false 0
 
--- without a stop there are no more answers that the disk failed than failures were set
+-- without a stop there are no more answers that a disk failed than failures were set
 abbrev pub FaultsAreSet : Type 0
 FaultsAreSet = (world : StoreTerm Medium) (first s : State) (steps part : List Step) (fails : ℕ)
     → IsDrill world first s steps part false fails → fails < 2 ^ 64 - 1 → disk_faults part ≤ fails

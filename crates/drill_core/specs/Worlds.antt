@@ -1,9 +1,14 @@
--- What is set on a world's disk, what a reopening makes of it, and what it always is. For callers but for the last.
-use Rattle.std.specs.Prelude.{◌≡◌, ◌≤◌, List, Some, ℕ}
+-- What is set on a world's disk, what a reopening makes of both, and what a world always is. For callers but for the
+-- last.
+use Rattle.std.specs.Prelude.{◌≡◌, ◌≤◌, List, Option, Some, ℕ}
+use Rattle.disk_edge.specs.Disk.{Exactly}
 use Rattle.disk_edge.specs.Failures.{bound_of}
 use Rattle.disk_edge.specs.Image.{image_of}
-use Rattle.disk_edge.specs.Medium.{Medium}
+use Rattle.disk_edge.specs.Medium.{Medium, model}
 use Rattle.disk_edge.specs.declared.failures.Failures.{Failures}
+use Rattle.disk_pair.specs.Changed.{changed}
+use Rattle.disk_pair.specs.Term.{disk_a, disk_b}
+use Rattle.disk_pair.specs.declared.choice.Which.TheVariants.{First}
 use Rattle.store_machine.specs.History.{head}
 use Rattle.store_machine.specs.Machine.{Recovers}
 use Rattle.store_machine.specs.Openings.{IsOpened, reopening}
@@ -15,32 +20,41 @@ use Rattle.store_disk.specs.Loads.{OpensTo}
 use Rattle.store_disk.specs.OnDisk.{StoreTerm}
 
 -- with other failures set on disk `a`: one that fails once, and a stop
-abbrev pub with_failures : StoreTerm Medium → Failures → StoreTerm Medium
-with_failures store failures =
-    record store { journal = record store.journal { disk = record store.journal.disk { failures = failures } } }
+abbrev pub with_failures : StoreTerm Medium → (Failures → Failures) → StoreTerm Medium
+with_failures store set =
+    record store { pair = changed First (λ d. record d { failures = set d.failures }) store.pair }
 
 abbrev pub failing : StoreTerm Medium → ℕ → StoreTerm Medium
-failing store call = with_failures store (record store.journal.disk.failures { once = Some call })
+failing store call = with_failures store (λ f. record f { once = Some call })
 
 abbrev pub stopping : StoreTerm Medium → ℕ → StoreTerm Medium
-stopping store calls = with_failures store (record store.journal.disk.failures { passes = Some calls })
+stopping store calls = with_failures store (λ f. record f { passes = Some calls })
+
+-- the bounds of the faults of disk `a` and of disk `b`
+abbrev pub bounds_of : StoreTerm Medium → Option ℕ × Option ℕ
+bounds_of store = (bound_of (disk_a store.pair).failures, bound_of (disk_b store.pair).failures)
 
 -- none is set on either disk, and none ever came
 abbrev pub HasNoFailures : StoreTerm Medium → Type 0
-HasNoFailures store = (bound_of store.journal.disk.failures ≡ Some 0) × (bound_of store.b.failures ≡ Some 0)
+HasNoFailures store =
+    (bound_of (disk_a store.pair).failures ≡ Some 0) × (bound_of (disk_b store.pair).failures ≡ Some 0)
 
 -- the bytes that a crash leaves on a disk: the image of this number
 abbrev pub left_on : Medium → ℕ → List ℕ
 left_on disk image = image_of image disk.first disk.calls
 
--- From a state, a crash that leaves these bytes on disk `a`, and an opening, lead to a state for which this store
--- stands, at this version.
-pub record Reopens (s : State) (bytes : List ℕ) (store : StoreTerm Medium) (count : ℕ) : Type 0 where
+-- a read gives these bytes, and a crash now leaves them
+abbrev pub HasSynced : Medium → List ℕ → Type 0
+HasSynced disk bytes = (model.content disk ≡ Some bytes) × Exactly bytes (model.images disk)
+
+-- From a state, a crash that leaves these bytes on disk `a` and these on disk `b`, and an opening, lead to a state for
+-- which this store stands, at this version.
+pub record Reopens (s : State) (a b : List ℕ) (store : StoreTerm Medium) (count : ℕ) : Type 0 where
   pub after : State
   pub stands : StandsInMemory store after
-  -- the history is one that a crash may leave, and the one that the bytes open to
+  -- the history is one that a crash may leave, and the one that the two disks open to
   pub recovers : Recovers s after.history after.generation
-  pub opens : OpensTo after.history bytes
+  pub opens : OpensTo after.history after.generation a b
   pub version : count ≡ head after.history
   -- nothing is pinned, copied or in doubt, and the limit is as before
   pub opened : IsOpened s.limit after

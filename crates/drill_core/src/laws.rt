@@ -4,13 +4,13 @@ ghost use Rattle.drill_core.specs.Faults.{FaultsAreCounted};
 
 use store_machine::runs_join;
 
-/// Each call that is answered that the disk failed stands for a call of the disk that failed.
+/// Each call that is answered that a disk failed stands for a call of one of the two disks that failed.
 pub fn disk_faults_are_counted()
     ensures { FaultsAreCounted }
 {}
 
 /// All that is done with a world, reopenings included, is one run. Since the last of these no more calls were answered
-/// that the disk failed than failures were set, where no stop was.
+/// that a disk failed than failures were set, where no stop was.
 pub fn drills_are_runs()
     ensures begins { DrillsBegin }
     ensures calls { DrillsCall }

@@ -1,5 +1,5 @@
-//! A world of stops: a store on disks in memory that fail where they are told to, and that may be left by a crash and
-//! opened again.
+//! A world of stops: a store on two disks in memory, of which `a` fails where it is told to. Both may be left by a
+//! crash and opened again.
 //!
 //! A `World` is a `Service`, by its store. What is called between two reopenings is a run without a crash; a reopening
 //! adds a crash and an opening, so that all of it together is one run of the machine (`drills_are_runs`).

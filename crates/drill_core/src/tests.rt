@@ -1,4 +1,4 @@
-//! A world is stopped or failed at each call of its disk, and opened again at images of it.
+//! A world is stopped or failed at each call of disk `a`, and opened again at images of both disks.
 
 use crate::World;
 use mol_finish::Format;

@@ -1,11 +1,11 @@
-//! A store on disks in memory that may be stopped at any call of its disk, and opened again. All that a crash leaves
-//! is what the disks hold; the store in memory is made anew.
+//! A store on two disks in memory that may be stopped at any call of disk `a`, and opened again. All that a crash
+//! leaves is what the disks hold; the store in memory is made anew.
 
-ghost use Rattle.std.specs.Prelude.{◌≡◌, ◌≤◌, ◌+◌, [], All, IfOk, IfSome, IsSomeAnd, length, None, OnErr, Some, true};
+ghost use Rattle.std.specs.Prelude.{◌≡◌, ◌≤◌, ◌+◌, [], All, IfOk, IfSome, IsSomeAnd, length, None, OnErr, true};
 ghost use Rattle.std.specs.Arc.{arc_value};
-ghost use Rattle.disk_edge.specs.Failures.{bound_of};
 ghost use Rattle.disk_edge.specs.Fresh.{fresh};
 ghost use Rattle.disk_edge.specs.Medium.{model};
+ghost use Rattle.disk_pair.specs.Term.{disk_a, disk_b};
 ghost use Rattle.store_core.specs.Calls.{Calls, NotRaised, SameHeld, WornAs, is_worn};
 ghost use Rattle.store_core.specs.Records.{Shared};
 ghost use Rattle.store_core.specs.Replies.{fetch_calls};
@@ -17,7 +17,8 @@ ghost use Rattle.store_machine.specs.Openings.{IsOpened};
 ghost use Rattle.store_machine.specs.declared.machine.State.{State};
 ghost use Rattle.store_disk.specs.InMemory.{StandsInMemory};
 ghost use Rattle.store_disk.specs.Stored.{Stretches};
-ghost use Rattle.drill_core.specs.Worlds.{HasNoFailures, Reopens, failing, left_on, stopping};
+ghost use Rattle.drill_core.specs.Faults.{failed_a};
+ghost use Rattle.drill_core.specs.Worlds.{HasNoFailures, HasSynced, Reopens, bounds_of, failing, left_on, stopping};
 
 use chem_core::Print;
 use disk_edge::MemDisk;
@@ -27,12 +28,10 @@ use std::alloc::{AllocError, Global};
 use std::marker::Model;
 use std::sync::ledger::Ledger;
 use store_core::{CallFault, Change, CommitFault, Look, MOST_COMMITS, Page, Service, Stats, Steps};
-use store_disk::{
-    Disks, Store, a_standing_store_opens, a_store_opens_one_way, what_is_left_is_recovered,
-};
+use store_disk::{Disks, Store, a_standing_store_opens, a_store_opens_one_way};
 use store_machine::crash_opens;
 
-/// A store on disks in memory, with any number of callers. Contracts see its store.
+/// A store on two disks in memory, with any number of callers. Contracts see its store.
 #[derive(Drop)]
 pub struct World {
     alloc: Global,
@@ -72,48 +71,52 @@ impl World {
         })
     }
 
-    /// `calls` calls of disk `a` pass, and then each fails, in the place of a stop that was set before. The disk then
-    /// tells no bound of its faults. Takes no memory.
+    /// `calls` calls of disk `a` pass, and then each fails, in the place of a stop that was set before. That disk then
+    /// tells no bound of its faults. Disk `b` is as before. Takes no memory.
     pub fn stop_after(&mut self, calls: u64)
         ensures stands { (s : State) → StandsInMemory self.old s → StandsInMemory self.new s }
         ensures only { self.new ≡ stopping self.old calls }
-        ensures bound { bound_of self.new.journal.disk.failures ≡ None }
+        ensures bound { (bounds_of self.new).0 ≡ None }
+        ensures b { disk_b self.new.pair ≡ disk_b self.old.pair }
     {
         self.store.stop_after(calls);
     }
 
     /// The call of disk `a` of this number from now, counted from 1, fails, in the place of one that was set before and
-    /// has not failed yet. It raises the bound of the disk's faults by at most one. Takes no memory.
+    /// has not failed yet. It raises the bound of that disk's faults by at most one, and not their count. Disk `b` is
+    /// as before. Takes no memory.
     pub fn fail_once(&mut self, call: u64)
         ensures stands { (s : State) → StandsInMemory self.old s → StandsInMemory self.new s }
         ensures only { self.new ≡ failing self.old call }
-        ensures bound { IfSome (bound_of self.old.journal.disk.failures)
-            (λ n. IsSomeAnd (bound_of self.new.journal.disk.failures) (λ m. m ≤ n + 1)) }
+        ensures bound { IfSome (bounds_of self.old).0
+            (λ n. IsSomeAnd (bounds_of self.new).0 (λ m. m ≤ n + 1)) }
+        ensures count { failed_a self.new ≡ failed_a self.old }
+        ensures b { disk_b self.new.pair ≡ disk_b self.old.pair }
     {
         self.store.fail_once(call);
     }
 
     /// A crash that leaves the image of this number of each disk, and a loading. What a disk holds is then what
     /// `MemDisk::image` of that number gives; no failure is set, and nothing is pinned or in doubt. Answers the number
-    /// of commits beside the world. The history is the one that the image of disk `a` opens to: that from before the
-    /// crash, or this and the commit in doubt. Fails where memory runs out, and only there.
+    /// of commits beside the world. The history is the one that the two images open to: that from before the crash, or
+    /// this and the commit in doubt. Fails where memory runs out, and only there.
     pub fn reopen(self, image: u32) -> Result<(World, u32), AllocError>
         ensures opens { IfOk result (λ r. (s : State) → StandsInMemory self s
-            → Reopens s (left_on self.journal.disk image) r.0 r.1) }
-        ensures a { IfOk result (λ r. model.content r.0.journal.disk
-            ≡ Some (left_on self.journal.disk image)) }
-        ensures b { IfOk result (λ r. r.0.b ≡ fresh (left_on self.b image)) }
+            → Reopens s (left_on (disk_a self.pair) image) (left_on (disk_b self.pair) image) r.0 r.1) }
+        ensures a { IfOk result (λ r.
+            HasSynced (disk_a r.0.pair) (left_on (disk_a self.pair) image)) }
+        ensures b { IfOk result (λ r.
+            HasSynced (disk_b r.0.pair) (left_on (disk_b self.pair) image)) }
         ensures no_failures { IfOk result (λ r. HasNoFailures r.0) }
     {
-        a_standing_store_opens::<MemDisk>();
         a_store_opens_one_way();
-        what_is_left_is_recovered::<MemDisk>();
         crash_opens();
         let World {
             alloc,
             store,
             commits,
         } = self;
+        a_standing_store_opens(&store);
         let disks = after_crash(store.into_disks(), image);
         match Store::load(alloc, disks, commits) {
             Ok(store) => {
@@ -139,7 +142,8 @@ impl World {
 fn after_crash(disks: Disks<MemDisk>, image: u32) -> Disks<MemDisk>
     ensures a { result.a ≡ fresh (left_on disks.a image) }
     ensures b { result.b ≡ fresh (left_on disks.b image) }
-    ensures image { model.images disks.a (left_on disks.a image) }
+    ensures image_a { model.images disks.a (left_on disks.a image) }
+    ensures image_b { model.images disks.b (left_on disks.b image) }
 {
     let Disks { a, b } = disks;
     Disks {
@@ -162,7 +166,7 @@ impl Service for World {
 
     ghost holds = { λ world. HoldsPin world.memory };
 
-    ghost bounds = { λ world. (bound_of world.journal.disk.failures, bound_of world.b.failures) };
+    ghost bounds = { bounds_of };
 
     fn commit(&mut self, change: Change) -> Result<u32, CommitFault> {
         self.store.commit(change)
@@ -196,9 +200,7 @@ impl Service for World {
             → AreSteps s from want.now steps.old steps.new }
         ensures worn { WornAs ⊥ ⊥ (is_worn result) }
         ensures held { SameHeld (HoldsPin self.old.memory) (HoldsPin self.new.memory) }
-        ensures bounds { NotRaised
-            (bound_of self.old.journal.disk.failures, bound_of self.old.b.failures)
-            (bound_of self.new.journal.disk.failures, bound_of self.new.b.failures) }
+        ensures bounds { NotRaised (bounds_of self.old) (bounds_of self.new) }
     {
         self.store.fetch(pin, want, from, limit, page, steps)
     }

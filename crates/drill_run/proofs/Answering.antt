@@ -6,10 +6,10 @@ use Rattle.std.specs.declared.alloc.Global.{Global}
 use Rattle.std.proofs.lemmas.Bool.{true≢false}
 use Rattle.std.proofs.lemmas.List.{map-append}
 use Rattle.std.specs.declared.alloc.AllocError.{AllocError}
-use Rattle.disk_edge.specs.Failures.{bound_of}
 use Rattle.disk_edge.specs.Medium.{model}
+use Rattle.disk_pair.specs.Term.{disk_a, disk_b}
 use Rattle.drill_core.specs.Faults.{FaultsAreCounted, disk_faults}
-use Rattle.drill_core.specs.Worlds.{HasNoFailures, Reopens}
+use Rattle.drill_core.specs.Worlds.{HasNoFailures, Reopens, bounds_of}
 use Rattle.io_edge.specs.Lines.{TextLine, Whole}
 use Rattle.session_run.specs.Acts.{Lines, RequestAnswer}
 use Rattle.session_run.specs.Cursors.{Calls}
@@ -139,7 +139,7 @@ uses-none world = record {
     made = λ s at. record { steps = []; after = s; stands = stays model world s at; own = refl };
   };
   pins = moves-none (HoldsPin world.memory);
-  bounds = not_raised-same (bound_of world.journal.disk.failures, bound_of world.b.failures);
+  bounds = not_raised-same (bounds_of world);
 }
 
 refused : (size : ℕ) (own : List ℕ) (world : WorldTerm) (kept : Standing) → TakesLines own
@@ -230,8 +230,10 @@ goes-session {size} {own} {old} {new} {kept} {kept'} a line number before after 
       tallied = λ t h small.
           let same : faults_in a.calls ≡ disk_faults k.steps =
           ap faults_in (sym k.own ∙ calm-events k.steps k.stands.calm) ∙ same-faults k.steps in
-          tally-session t old.journal.disk.failures new.journal.disk.failures a.calls h small a.uses.bounds.0
-          (λ less. let sum = counted old new s k.after k.steps k.stands (omega (arith, less)) in
+          tally-session t (disk_a old.pair).failures (disk_b old.pair).failures (disk_a new.pair).failures
+          (disk_b new.pair).failures a.calls h small a.uses.bounds
+          (λ few-a few-b.
+          let sum = counted old new s k.after k.steps k.stands (omega (arith, few-a), omega (arith, few-b)) in
           omega (arith, sum, same));
     }
 
@@ -305,8 +307,8 @@ none_kept r = nothing_kept
 
 module _ (a b : Sessions) (old : WorldTerm) (line : TextLine) (image : ℕ) (ready : AreReady old a)
     (empty : a.out.items ≡ []) (reads : Reads line (Some (Reopen image))) where
-  module _ (new : WorldTerm) (bytes : List ℕ) (version : ℕ)
-      (reopens : (s : State) → StandsInMemory old s → Reopens s bytes new version) (unset : HasNoFailures new) where
+  module _ (new : WorldTerm) (x y : List ℕ) (version : ℕ)
+      (reopens : (s : State) → StandsInMemory old s → Reopens s x y new version) (unset : HasNoFailures new) where
     goes-open : (none : kept_in b.responders.items ≡ map none_kept a.responders.items)
         → Goes a.settings.page line old new (kept_in a.responders.items) (kept_in b.responders.items)
         (reopened_text version)
@@ -327,7 +329,10 @@ module _ (a b : Sessions) (old : WorldTerm) (line : TextLine) (image : ℕ) (rea
         ap (λ (n : ℕ). (Crash, Crashed) ∷ (Open, Opened n) ∷ []) (sym r.version),
         r.stands,
       );
-      tallied = λ t h small. (inl refl, tally-new new.journal.disk.failures unset.0);
+      tallied = λ t h small. (
+        inl refl,
+        tally-new (disk_a new.pair).failures (disk_b new.pair).failures unset.0 unset.1,
+      );
     } where
       none-again : (xs : List Responder) → map (λ _. nothing_kept) (kept_in xs) ≡ map none_kept xs
       none-again [] = refl

@@ -2,7 +2,8 @@
 use Rattle.std.proofs.Common.{◌≡◌, ◌≤◌, ◌<◌, ◌+◌, ◌^◌, ◌++◌, ◌∙◌, ap, append-nil, append_assoc, arith, false, IfSome, inl, inr, IsTrue, length, length-append, List, [], ◌∷◌, None, Option, refl, Some, subst, sym, ℕ}
 use Rattle.std.specs.Io.KnownBytes.{Appends}
 use Rattle.std.proofs.KnownBytes.{Appends-trans}
-use Rattle.disk_edge.specs.Failures.{bound_of}
+use Rattle.disk_pair.specs.Term.{disk_a, disk_b}
+use Rattle.drill_core.specs.Worlds.{HasNoFailures}
 use Rattle.io_edge.specs.Faults.{Rose}
 use Rattle.io_edge.specs.Lines as io
 use Rattle.io_edge.specs.Lines.{Reading, TextLine, done_bytes, lines_left, whole_lines}
@@ -59,13 +60,13 @@ appends-none (Some x) = sym (append-nil x)
 
 -- the start
 pub under_way-start : (size : ℕ) (start : WorldTerm) (before put : Option (List ℕ)) (r : Reading) (all : AllKept)
-    → IsFresh r → all ≡ all_empty → bound_of start.journal.disk.failures ≡ Some 0
+    → IsFresh r → all ≡ all_empty → HasNoFailures start
     → IsUnderWay size r.limit start start before before put put r all
 under_way-start size start before put r all fresh none unset = record {
   exchanges = [];
   exchanged = none;
   caused = tt;
-  tallied = tally-new start.journal.disk.failures unset;
+  tallied = tally-new (disk_a start.pair).failures (disk_b start.pair).failures unset.0 unset.1;
   few = omega arith;
   runs = runs-none start (StandsInMemory start) (λ s h. h);
   wrote = appends-none put;

@@ -4,7 +4,7 @@ use Rattle.std.specs.Fmt.{decimal}
 use Rattle.io_edge.specs.Lines.{TextLine, Whole, TooLong}
 use Rattle.drill_run.specs.declared.line.TheConstants.{LAST_IMAGE, MOST_CALLS, SESSIONS}
 
--- nothing; a script line for a session; a failure of the disk that is set; a reopening
+-- nothing; a script line for a session; a failure of disk `a` that is set; a reopening
 pub data DrillLine : Type 0 where
   Empty : DrillLine
   Session : (number : ℕ) (line : List ℕ) → DrillLine

@@ -1,10 +1,11 @@
 -- For private clauses alone: what a turn of a drill does, and when the next can be done.
-use Rattle.std.specs.Prelude.{◌≡◌, ◌≤◌, ◌<◌, ◌+◌, ◌^◌, ℕ, IsSomeAnd, List, [], ◌∷◌, ◌++◌, length, Option, Result, Ok, Err, true}
+use Rattle.std.specs.Prelude.{◌≡◌, ◌≤◌, ◌<◌, ◌+◌, ◌^◌, ℕ, IsSomeAnd, List, [], ◌∷◌, ◌++◌, length, Option, Result, Ok, Err, Some, true}
 use Rattle.std.specs.Io.KnownBytes.{Appends}
 use Rattle.std.specs.List.{AllByRecursion}
 use Rattle.std.specs.declared.alloc.AllocError.{AllocError}
-use Rattle.disk_edge.specs.Failures.{bound_of}
 use Rattle.disk_edge.specs.Medium.{Medium, model}
+use Rattle.drill_core.specs.Faults.{failed}
+use Rattle.drill_core.specs.Worlds.{bounds_of}
 use Rattle.io_edge.specs.Lines.{AwaitsBytes, Reading, TextLine, Whole, TooLong}
 use Rattle.io_edge.specs.Sink.{AppendsPrefix}
 use Rattle.io_edge.specs.declared.lines.Line.{Line}
@@ -52,12 +53,12 @@ pub record AreReady (world : WorldTerm) (sessions : Sessions) : Type 0 where
   pub fit : AllByRecursion (IsSessionOf sessions.settings) sessions.responders.items
   pub held : AreHeld (HoldsPin world.memory) (all_of (kept_in sessions.responders.items))
 
--- Without a stop, the disk has no more faults to count than the part has lines `fail`, and the events with a disk fault
--- are among those it counted
+-- Without a stop, disk `a` has no more faults to count than the part has lines `fail`, and disk `b` has none. The
+-- events with a disk fault are among those that both counted
 abbrev pub IsTallied : Tally → WorldTerm → Type 0
 IsTallied t world = t.stops ≡ 0
-    → IsSomeAnd (bound_of world.journal.disk.failures) (λ n. n ≤ t.fails)
-    × (t.faults ≤ world.journal.disk.failures.count)
+    → IsSomeAnd (bounds_of world).0 (λ n. n ≤ t.fails) × ((bounds_of world).1 ≡ Some 0)
+    × (t.faults ≤ failed world)
 
 -- a tally whose numbers a count of faults can hold
 abbrev pub IsSmall : Tally → Type 0
@@ -67,8 +68,7 @@ IsSmall t = t.fails + 1 < 2 ^ 64
 pub record Uses (old new : WorldTerm) (calls : Calls) : Type 0 where
   pub makes : Makes StandsInMemory (λ _ _. true) (Stretches model) old new calls
   pub pins : MovePins calls (HoldsPin old.memory) (HoldsPin new.memory)
-  pub bounds : NotRaised (bound_of old.journal.disk.failures, bound_of old.b.failures)
-      (bound_of new.journal.disk.failures, bound_of new.b.failures)
+  pub bounds : NotRaised (bounds_of old) (bounds_of new)
 
 -- a session's line was answered
 pub record AnswersOwn (size : ℕ) (line : List ℕ) (old new : WorldTerm) (standing standing' : Standing) : Type 0 where

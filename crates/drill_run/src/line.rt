@@ -23,11 +23,11 @@ pub enum DrillLine<'a> {
     Empty,
     /// `S LINE`: a script line for a session, from 1 on.
     Session { number: u32, line: &'a [u8] },
-    /// `stop K`: after `calls` calls of the disk each fails.
+    /// `stop K`: after `calls` calls of disk `a` each fails.
     Stop { calls: u32 },
-    /// `fail K`: the call of the disk of this number from now fails.
+    /// `fail K`: the call of disk `a` of this number from now fails.
     Fail { call: u32 },
-    /// `reopen N`: a crash that leaves an image, and an opening.
+    /// `reopen N`: a crash that leaves the image of this number of each disk, and an opening.
     Reopen { image: u32 },
 }
 

@@ -1,6 +1,6 @@
 //! A drill, line by line.
-ghost use Rattle.std.specs.Prelude.{◌≡◌, ◌≢◌, ◌≤◌, ◌<◌, ◌^◌, Err, IfErr, IfOk, IsTrue, Ok, OnOk, OnErr, Some, ℕ};
-ghost use Rattle.disk_edge.specs.Failures.{bound_of};
+ghost use Rattle.std.specs.Prelude.{◌≡◌, ◌≢◌, ◌≤◌, ◌<◌, ◌^◌, Err, IfErr, IfOk, IsTrue, Ok, OnOk, OnErr, ℕ};
+ghost use Rattle.drill_core.specs.Worlds.{HasNoFailures};
 ghost use Rattle.io_edge.specs.Faults.{Rose};
 ghost use Rattle.io_edge.specs.Lines.{TextLine, done_bytes};
 ghost use Rattle.session_run.specs.Cursors.{Calls};
@@ -38,7 +38,7 @@ pub fn drill<R: Threads + Sync, I: Source, O: Sink, M: Meter>(
     requires some { 1 ≤ settings.now.page }
     requires few { settings.now.page ≤ 256 }
     requires new { (commits : ℕ) × StandsInMemory world (empty commits) }
-    requires no_failures { (bound_of world.journal.disk.failures ≡ Some 0) × (bound_of world.b.failures ≡ Some 0) }
+    requires no_failures { HasNoFailures world }
     ensures drills { (calls : Calls) × Runs world calls
         × IsDrilledBy result settings.now.page (I.left source.old) (I.left source.new)
         (O.written sink.old) (O.written sink.new) calls }
@@ -71,7 +71,7 @@ fn serve<R: Threads + Sync, I: Source, O: Sink, M: Meter>(
 ) -> EndStatus
     requires ready { AreReady world sessions.old }
     requires none { kept_in sessions.old.responders.items ≡ all_empty }
-    requires no_failures { bound_of world.journal.disk.failures ≡ Some 0 }
+    requires no_failures { HasNoFailures world }
     requires fresh { IsFresh lines.old }
     requires limit { lines.old.limit < 2 ^ 64 }
     ensures drills { (calls : Calls) × Runs world calls

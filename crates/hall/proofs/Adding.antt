@@ -1,11 +1,10 @@
 -- A call on the store is one step more of its history, by each owner who may ask it.
 use Rattle.std.proofs.Common.{◌≡◌, ◌++◌, ◌∙◌, ap, Bool, List, [], ◌∷◌, None, Option, refl, Some, subst, sym, true, ℕ}
 use Rattle.disk_edge.specs.Disk.{DiskModel}
-use Rattle.store_machine.specs.Machine.{FetchGives, Gives, Holds, Rose, UnpinGives}
+use Rattle.store_machine.specs.Machine.{FetchGives, Gives, Holds, UnpinGives}
 use Rattle.store_machine.specs.Owners.{OwnersAreFree, SameButOwners}
 use Rattle.store_machine.specs.declared.machine.Event.{Event}
 use Rattle.store_machine.specs.declared.machine.Event.TheVariants.{Commit, Compact, Crash, Fetch, Look, Open, Pin, Prune, Stats, Unpin}
-use Rattle.store_machine.specs.declared.machine.Faults.{Faults}
 use Rattle.store_machine.specs.declared.machine.Held.{Held}
 use Rattle.store_machine.specs.declared.machine.Reply.{Reply}
 use Rattle.store_machine.specs.declared.machine.Reply.TheVariants as reply
@@ -69,7 +68,6 @@ module _ {D : Type 0} (model : DiskModel D) (asks : AsksNoOwner model) (a b : St
       → Stretches model a b s (record x { owner = n; after = t' } ∷ []) t'
   stretch-reowned s t x n t' q gives same =
       let ends : t ≡ x.after = q.run.2 in
-      let faults : t'.faults ≡ x.after.faults = ap (λ (u : State). u.faults) same.rest in
       record {
         begins = q.begins;
         ends = asks b x.after t' same (subst (λ u. StandsFor model b u) ends q.ends);
@@ -77,17 +75,12 @@ module _ {D : Type 0} (model : DiskModel D) (asks : AsksNoOwner model) (a b : St
         calm = q.calm;
         clocked = q.clocked;
         moments = q.moments;
-        causes = (
-          record {
-            fault = λ d. subst (λ (f : Faults). Rose x.before.faults.a f.a) (sym faults) (q.causes.0.fault d);
-            quiet = q.causes.0.quiet;
-          },
-          tt,
-        );
+        causes = q.causes;
         untouched = q.untouched;
-        past = q.past;
-        untold = q.untold;
-        other = q.other;
+        past_a = q.past_a;
+        past_b = q.past_b;
+        untold_a = q.untold_a;
+        untold_b = q.untold_b;
       }
 
 -- such a call adds its step
@@ -114,7 +107,7 @@ adds model old new calls free asks p one told call o h n kept may =
       refl,
       tells,
       record {
-        unpinned = kept.unpinned;
+        opened = kept.opened;
         given = λ e. absurd (one-more h y e);
         stands = subst (λ (t : State). Stretches model o.store new.store o.state (h ++ y ∷ []) t)
             (sym (after-append h (y ∷ []) o.state)) whole;

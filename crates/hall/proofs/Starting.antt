@@ -1,6 +1,7 @@
 -- The history at its start and at its end.
-use Rattle.std.proofs.Common.{◌≡◌, ◌^◌, ◌∙◌, ap, [], refl, subst, sym}
+use Rattle.std.proofs.Common.{◌≡◌, ◌^◌, ◌∙◌, ap, [], refl, subst, sym, ℕ}
 use Rattle.disk_edge.specs.Disk.{DiskModel}
+use Rattle.store_machine.specs.Openings.{IsOpened}
 use Rattle.store_machine.specs.declared.machine.State.{State}
 use Rattle.store_machine.specs.declared.machine.Step.{Step}
 use Rattle.store_disk.specs.OnDisk.{StandsFor, StoreTerm}
@@ -14,13 +15,13 @@ use Rattle.hall.specs.Histories.{KeptFor}
 use Rattle.hall.specs.Passes.{Begins, Ends}
 
 module _ {D : Type 0} (model : DiskModel D) where
-  -- a store without pins stands for no event after each state that it is at
+  -- a store stands for no event after each state as an opening leaves it that it is at
   pub may-start : (store : StoreTerm D) (kept : Kept D) → kept.store ≡ store → (s : State) → StandsFor model store s
-      → s.pins ≡ [] → (o : Origin D) × KeptFor model o kept []
-  may-start store kept e s stands pins = (
+      → (commits : ℕ) × IsOpened commits s → (o : Origin D) × KeptFor model o kept []
+  may-start store kept e s stands opened = (
     record { store = store; state = s },
     record {
-      unpinned = pins;
+      opened = opened;
       given = λ _. e;
       stands = subst (λ (x : StoreTerm D). Stretches model store x s [] s) (sym e) (stays model store s stands);
     },
@@ -35,7 +36,7 @@ module _ {D : Type 0} (model : DiskModel D) where
         of = ap (λ (k : Known (Kept D) Step (Origin D)). k.origin) b.is;
         store_is = is;
         stands = subst (λ (x : StoreTerm D). StandsFor model x b.origin.state) is b.standing.stands.begins;
-        unpinned = b.standing.unpinned;
+        opened = b.standing.opened;
         seen = ap (λ (k : Known (Kept D) Step (Origin D)). k.seen) b.is;
         numbers = ap (λ (k : Known (Kept D) Step (Origin D)). k.numbers) b.is;
         given = ap (λ (k : Known (Kept D) Step (Origin D)). k.given) b.is;
@@ -48,7 +49,7 @@ module _ {D : Type 0} (model : DiskModel D) where
       let whole : Ends model p kept.store = record {
         origin = c.origin;
         of = c.of;
-        unpinned = c.standing.unpinned;
+        opened = c.standing.opened;
         stretch = c.standing.stands;
       } in
       subst (λ (x : StoreTerm D). Ends model p x) (sym e) whole

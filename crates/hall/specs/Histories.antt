@@ -2,6 +2,7 @@
 use Rattle.std.specs.Prelude.{◌≡◌, ◌++◌, List, [], ◌∷◌, ℕ}
 use Rattle.disk_edge.specs.Disk.{DiskModel}
 use Rattle.store_machine.specs.Machine.{Holds}
+use Rattle.store_machine.specs.Openings.{IsOpened}
 use Rattle.store_machine.specs.Owners.{SameButOwners}
 use Rattle.store_machine.specs.declared.machine.Event.{Event}
 use Rattle.store_machine.specs.declared.machine.Event.TheVariants.{Fetch, Unpin}
@@ -40,11 +41,11 @@ module _ {D : Type 0} where
   abbrev pub Tells : Kept D → Step → Type 0
   Tells k e = told_of k ≡ (e.event, e.reply) ∷ []
 
--- The store has made these steps since it was given, from a state without pins for which it stood: they are a stretch
+-- The store has made these steps since it was given, from a state as an opening leaves it for which it stood: they are a stretch
 -- of the store on its disks.
 pub record KeptFor {D : Type 0} (model : DiskModel D) (origin : Origin D) (kept : Kept D) (history : List Step) : Type 0
   where
-    pub unpinned : origin.state.pins ≡ []
+    pub opened : (commits : ℕ) × IsOpened commits origin.state
     pub given : history ≡ [] → kept.store ≡ origin.store
     pub stands : Stretches model origin.store kept.store origin.state history (after origin.state history)
 

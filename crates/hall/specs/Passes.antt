@@ -2,6 +2,7 @@
 use Rattle.std.specs.Prelude.{◌≡◌, ◌⊎◌, ◌≤◌, ◌^◌, ◌↔◌, [], ◌∷◌, length, true, ℕ}
 use Rattle.disk_edge.specs.Disk.{DiskModel}
 use Rattle.store_machine.specs.Machine.{Holds}
+use Rattle.store_machine.specs.Openings.{IsOpened}
 use Rattle.store_machine.specs.Runs.{IsCalm, IsRun}
 use Rattle.store_machine.specs.declared.machine.Step.{Step}
 use Rattle.store_disk.specs.OnDisk.{StandsFor, StoreTerm}
@@ -56,13 +57,13 @@ module _ {D : Type 0} where
     pub within : length (known p).seen ≤ (known p).turns
 
 module _ {D : Type 0} (model : DiskModel D) where
-  -- the first pass: the history begins with the store that was given, at a state without pins for which it stood
+  -- the first pass: the history begins with the store that was given, at a state as an opening leaves it for which it stood
   pub record Begins (store : StoreTerm D) (p : HallPass D) : Type 0 where
     pub origin : Origin D
     pub of : IsFrom origin p
     pub store_is : origin.store ≡ store
     pub stands : StandsFor model store origin.state
-    pub unpinned : origin.state.pins ≡ []
+    pub opened : (commits : ℕ) × IsOpened commits origin.state
     pub seen : (known p).seen ≡ []
     pub numbers : (known p).numbers ≡ 0 ∷ []
     pub given : (known p).given ≡ 1
@@ -72,7 +73,7 @@ module _ {D : Type 0} (model : DiskModel D) where
   pub record Ends (p : HallPass D) (store : StoreTerm D) : Type 0 where
     pub origin : Origin D
     pub of : IsFrom origin p
-    pub unpinned : origin.state.pins ≡ []
+    pub opened : (commits : ℕ) × IsOpened commits origin.state
     pub stretch : Stretches model origin.store store origin.state (known p).seen
         (after origin.state (known p).seen)
 

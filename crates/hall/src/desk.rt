@@ -55,7 +55,7 @@ impl<'h, R: Wait, D: Disk> Desk<'h, R, D> {
     }
 }
 
-impl<'h, R: Wait, D: Disk> Service for Desk<'h, R, D> {
+impl<'h, R: Wait, D: Disk + Drop> Service for Desk<'h, R, D> {
     ghost use Rattle.std.specs.Prelude.{None};
     ghost use Rattle.turn_gate.specs.Numbers.{has};
     ghost use Rattle.hall.specs.Desks.{IsAt, IsWorn, Stretches, joins, lands, pass_of, same, stays};

@@ -1,5 +1,5 @@
 //! A hall, and the passes of those who take turns in it.
-ghost use Rattle.std.specs.Prelude.{◌≡◌, [], IfErr, IfOk};
+ghost use Rattle.std.specs.Prelude.{◌≡◌, IfErr, IfOk, ℕ};
 
 use crate::kept::Kept;
 use crate::laws::laws;
@@ -23,19 +23,21 @@ pub struct HallPass<D: Disk> {
     pub(crate) pass: Pass<Kept<D>>,
 }
 
-impl<D: Disk> Hall<D> {
+impl<D: Disk + Drop> Hall<D> {
+    ghost use Rattle.store_machine.specs.Openings.{IsOpened};
     ghost use Rattle.store_machine.specs.declared.machine.State.{State};
     ghost use Rattle.store_disk.specs.OnDisk.{StandsFor};
     ghost use Rattle.turn_gate.specs.Steps.{giving, given_to};
     ghost use Rattle.hall.specs.Passes.{Begins, Ends, HasBoth, IsOf, IsRoot, IsWhole, Merged, Runs, known};
 
-    /// A hall of a store in which no pin is held, and its root pass, which is whole and has seen no event. The hall has
-    /// 2^63 turns. Its history begins at one state for which the store stands. An error gives the store back.
+    /// A hall of a store that was just opened, and its root pass, which is whole and has seen no event. The hall has 2^63
+    /// turns. Its history begins at one state for which the store stands, as an opening leaves it. An error gives the
+    /// store back.
     pub fn start(
         alloc: Global,
         store: Store<D>,
     ) -> Result<(Hall<D>, HallPass<D>), (AllocError, Store<D>)>
-        requires stands { (s : State) × StandsFor D.model store s × (s.pins ≡ []) }
+        requires stands { (s : State) × StandsFor D.model store s × ((commits : ℕ) × IsOpened commits s) }
         ensures of { IfOk result (λ r. IsOf r.0 r.1) }
         ensures whole { IfOk result (λ r. IsWhole r.1) }
         ensures begins { IfOk result (λ r. Begins D.model store r.1) }

@@ -83,7 +83,7 @@ impl<D: Disk> Stands for Kept<D> {
 
 // Each call adds one step to every history for which the store stands. It is told by the value, and may be of any
 // owner, but for a fetch and an unpin, which are of the owner of their pin.
-impl<D: Disk> Kept<D> {
+impl<D: Disk + Drop> Kept<D> {
     // Before any call.
     pub(crate) fn new(store: Store<D>) -> Kept<D>
         ensures store { result.store ≡ store }

@@ -18,7 +18,7 @@ use std::sync::Wait;
 use std::sync::ledger::Ledger;
 use store_core::{CallFault, Change, CommitFault, Look, Page, Stats, Steps};
 
-impl<D: Disk> Hall<D> {
+impl<D: Disk + Drop> Hall<D> {
     pub(crate) fn commit<R: Wait>(
         &self,
         rt: &R,

@@ -98,7 +98,13 @@ fn cut_all<D: Disk + Drop, S: Drop, K: Drop>(
 }
 
 // Serves each end in a thread of its own.
-fn serve_all<R: Threads + Wait + Sync, D: Disk + Send, S: Source + Send, K: Sink + Send, M: Meter>(
+fn serve_all<
+    R: Threads + Wait + Sync,
+    D: Disk + Send + Drop,
+    S: Source + Send,
+    K: Sink + Send,
+    M: Meter,
+>(
     rt: &R,
     alloc: Global,
     hall: &Hall<D>,

@@ -21,7 +21,7 @@ pub struct Slot<D: Disk, S, K> {
 }
 
 /// Serves an end: one session at a desk of the hall.
-pub fn serve_end<R: Threads + Wait + Sync, D: Disk, S: Source, K: Sink, M: Meter>(
+pub fn serve_end<R: Threads + Wait + Sync, D: Disk + Drop, S: Source, K: Sink, M: Meter>(
     rt: &R,
     alloc: Global,
     hall: &Hall<D>,

@@ -1,10 +1,13 @@
--- A commit on a disk, as a step of the machine.
-use Rattle.std.proofs.Common.{◌≡◌, ◌++◌, ◌≤◌, ap, arith, Err, false, inl, inr, IsErrAnd, length-append, List, [], ◌∷◌, None, Ok, Option, option_map, refl, Result, Some, subst, sym, true, ℕ}
-use Rattle.std.proofs.lemmas.List.{map-append}
+-- A commit on two disks, as a step of the machine.
+use Rattle.std.proofs.Common.{◌≡◌, ◌⊎◌, ◌∙◌, ap, arith, Err, false, inl, inr, IsErrAnd, length-append, List, [], ◌∷◌, MatchOption, None, Ok, Option, option_map, refl, Result, Some, subst, sym, true, ℕ}
 use Rattle.disk_edge.specs.Disk as disk
-use Rattle.disk_edge.specs.Disk.{DiskModel, IfTold, Keeps}
-use Rattle.disk_edge.specs.Moments.{AtEachMoment}
-use Rattle.journal_core.specs.Standing.{Standing}
+use Rattle.disk_edge.specs.Disk.{DiskModel}
+use Rattle.disk_pair.specs.Gives.{AppendGives, EndsOlder, OnFault}
+use Rattle.disk_pair.specs.Pairs.{History as Written, MayShow as PairMayShow, PairOpens, PairOpensTo as PairMayOpen, State as PairState, with_commit}
+use Rattle.disk_pair.specs.Stands.{StandsFor as StandsOnDisks}
+use Rattle.disk_pair.specs.Term.{AtEachPair, Goes, OfEachPair, Paired, disk_a, disk_b}
+use Rattle.disk_pair.specs.declared.fault.PutFault.{PutFault}
+use Rattle.disk_pair.specs.declared.fault.PutFault.TheVariants as put
 use Rattle.store_core.specs.Calls.{Calls}
 use Rattle.store_core.specs.Replies.{change_of, commit_calls}
 use Rattle.store_core.specs.Stored as memory
@@ -14,219 +17,262 @@ use Rattle.store_core.specs.declared.words.Change.{Change as Asked}
 use Rattle.store_core.specs.declared.words.CommitFault.{CommitFault}
 use Rattle.store_core.specs.declared.words.CommitFault.TheVariants as fault
 use Rattle.store_machine.specs.Laws.{RunsStaySound}
-use Rattle.store_machine.specs.History.{grown}
-use Rattle.store_machine.specs.Machine.{CommitGives, EndsDoubts, Gives, IsDiskFault, MayAdd, Serves, SomeRose, Rose, committed, one_more}
+use Rattle.store_machine.specs.Machine.{CommitGives, EndsDoubts, Gives, MayAdd, Rose, SomeRose, StaysOrEnds, committed, one_more}
+use Rattle.store_machine.specs.Rebases.{RebasesGrow, RebasesKeepHeads}
 use Rattle.store_machine.specs.declared.machine.Change.{Change}
+use Rattle.store_machine.specs.declared.machine.Copying.{Copying}
 use Rattle.store_machine.specs.declared.machine.Event.TheVariants as event
 use Rattle.store_machine.specs.declared.machine.Faults.{Faults}
 use Rattle.store_machine.specs.declared.machine.Reply.{Reply}
 use Rattle.store_machine.specs.declared.machine.Reply.TheVariants as reply
 use Rattle.store_machine.specs.declared.machine.State.{State}
-use Rattle.store_disk.specs.OnDisk.{Has, IsPlain, StandsFor, StoreTerm}
-use Rattle.store_disk.specs.Payloads.{payload, payloads}
-use Rattle.store_disk.specs.Puts.{EndsOlder, OnFault, PutGives, ShowsOne}
-use Rattle.store_disk.specs.Stored.{Stretches, times}
+use Rattle.store_disk.specs.OnDisk.{IfBothTold, LacksNoMore, StandsFor, StoreTerm, on_pair, whole_copy}
+use Rattle.store_disk.specs.Payloads.{payload}
+use Rattle.store_disk.specs.Faults.{commit_fault}
+use Rattle.store_disk.specs.Stored.{Shows, Stretches, times, told-before}
 use Rattle.store_disk.proofs.Bounds.{rose}
-use Rattle.store_disk.proofs.Lifts.{one-call, shows-one, sound-after, step_of, still-call}
+use Rattle.store_disk.proofs.Lifts.{one-call, sound-after, step_of, still-call}
+use Rattle.store_disk.proofs.OnDisks.{after-commit, shown-after, shown-with}
 use Rattle.store_disk.proofs.Steps.{all}
+
+-- a commit with its answer
+abbrev pub Gone : {D : Type 0} → DiskModel D → StoreTerm D → StoreTerm D → State → Asked → Result ℕ CommitFault → Type 0
+Gone model store new s c r = Calls (Stretches model) all store new s (commit_calls c r)
 
 module _ {D : Type 0} (model : DiskModel D)
     (only-now : (d : D) (c : List ℕ)
-    → model.images_between d (model.clock d) (model.clock d) c → model.images d c) where
-  abbrev Gone : StoreTerm D → StoreTerm D → State → Asked → Result ℕ CommitFault → Type 0
-  Gone store new s c r = Calls (Stretches model) all store new s (commit_calls c r)
-
-  -- nothing was done
-  stays : (store : StoreTerm D) (s : State) → StandsFor model store s → Serves s s
-  stays store s h = (h.memory.serves, (omega arith, omega arith))
-
+    → model.images_between d (model.clock d) (model.clock d) c → model.images d c)
+    (law : RunsStaySound) (heads : RebasesKeepHeads) (store : StoreTerm D)
+    (leaves : (t : PairState) → StandsOnDisks model store.pair t
+    → OfEachPair model store.pair (PairMayOpen (PairMayShow t))) where
   -- the store with another memory, which stands for the same
-  abbrev With : StoreTerm D → Memory → StoreTerm D
-  With store m = record store { memory = m }
+  abbrev With : Memory → StoreTerm D
+  With m = record store { memory = m }
 
-  with-memory : (store : StoreTerm D) (m : Memory) (s : State) → StandsFor model store s
-      → memory.StandsFor m (served s) → StandsFor model (With store m) s
-  with-memory store m s h stands = record {
-    memory = record {
-      sound = h.memory.sound;
-      serves = h.memory.serves;
-      copy = h.memory.copy;
-      finish = h.memory.finish;
-      stands = stands;
-    };
-    plain = h.plain;
-    base = h.base;
-    generation = h.generation;
-    journal = h.journal;
+  with-memory : (m : Memory) (s : State) → StandsFor model store s → memory.StandsFor m (served s)
+      → StandsFor model (With m) s
+  with-memory m s h stands = record {
+    memory = record { sound = h.memory.sound; serves = h.memory.serves; stands = stands };
+    header = h.header;
+    pair = h.pair;
+    lacks = h.lacks;
     counts = h.counts;
+    copy = h.copy;
   }
 
-  refused : RunsStaySound → (store : StoreTerm D) (m : Memory) (s : State) (c : Asked) (f : CommitFault)
-      → StandsFor model store s → StandsFor model (With store m) s → IsWhy s (change_of c) f
-      → Gone store (With store m) s c (Err f)
-  refused law store m s c fault.Known h n why = still-call model only-now law store (With store m) s s 0
-      (event.Commit (change_of c)) reply.Known refl (λ f. f) h (stays store s h, (why, refl)) n refl refl
-  refused law store m s c fault.Absent h n why = still-call model only-now law store (With store m) s s 0
-      (event.Commit (change_of c)) reply.Absent refl (λ f. f) h (stays store s h, (why, refl)) n refl refl
-  refused law store m s c fault.Withdrawn h n why = still-call model only-now law store (With store m) s s 0
-      (event.Commit (change_of c)) reply.Withdrawn refl (λ f. f) h (stays store s h, (why, refl)) n refl refl
-  refused law store m s c fault.Full h n why = still-call model only-now law store (With store m) s s 0
-      (event.Commit (change_of c)) reply.Full refl (λ f. f) h (stays store s h, (why.0, why.1, refl)) n refl refl
-  refused law store m s c (fault.DiskFault doubt) h n why = absurd why
-  refused law store m s c fault.Worn h n why = absurd why
-  refused law store m s c fault.NoMemory h n why = still-call model only-now law store (With store m) s s 0
-      (event.Commit (change_of c)) reply.NoMemory refl (λ f. f) h (stays store s h, (inl refl, inl refl, refl)) n refl
-      refl
+  -- nothing was done
+  untouched : (m : Memory) (s : State) (c : Change) (r : Reply) → StandsFor model store s
+      → StandsFor model (With m) s → CommitGives s c r s
+      → Calls (Stretches model) all store (With m) s ((event.Commit c, r) ∷ [])
+  untouched m s c r h n row = still-call model only-now law heads store leaves m s s 0 (event.Commit c) r refl h
+      ((h.memory.serves, (omega arith, omega arith)), row) n
+
+  refused : (m : Memory) (s : State) (c : Asked) (f : CommitFault)
+      → StandsFor model store s → StandsFor model (With m) s → IsWhy s (change_of c) f
+      → Gone model store (With m) s c (Err f)
+  refused m s c fault.Known h n why = untouched m s (change_of c) reply.Known h n (why, refl)
+  refused m s c fault.Absent h n why = untouched m s (change_of c) reply.Absent h n (why, refl)
+  refused m s c fault.Withdrawn h n why = untouched m s (change_of c) reply.Withdrawn h n (why, refl)
+  refused m s c fault.Full h n why = untouched m s (change_of c) reply.Full h n (why.0, why.1, refl)
+  refused m s c (fault.DiskFault doubt) h n why = absurd why
+  refused m s c fault.Worn h n why = absurd why
+  refused m s c fault.NoMemory h n why = untouched m s (change_of c) reply.NoMemory h n (inl refl, inl refl, refl)
 
   -- by the result of a `?`
-  pub refused-result : RunsStaySound → (store : StoreTerm D) (m : Memory) (s : State) (c : Asked) (f : CommitFault)
-      (r : Result ℕ CommitFault)
+  pub refused-result : (m : Memory) (s : State) (c : Asked) (f : CommitFault) (r : Result ℕ CommitFault)
       → IsErrAnd r (λ e. e ≡ f) → memory.StandsFor m (served s) → StandsFor model store s
-      → IsWhy s (change_of c) f → Gone store (With store m) s c r
-  refused-result law store m s c f (Ok x) is stands h why = absurd is
-  refused-result law store m s c f (Err e) is stands h why =
-      refused law store m s c e h (with-memory store m s h stands) (subst (IsWhy s (change_of c)) (sym is) why)
+      → IsWhy s (change_of c) f → Gone model store (With m) s c r
+  refused-result m s c f (Ok x) is stands h why = absurd is
+  refused-result m s c f (Err e) is stands h why =
+      refused m s c e h (with-memory m s h stands) (subst (IsWhy s (change_of c)) (sym is) why)
 
-  module _ (law : RunsStaySound) (store : StoreTerm D) (s : State) (h : StandsFor model store s)
-      (c : Asked) (m : Memory) (journal : Standing D)
-      (le : model.faults store.journal.disk ≤ model.faults journal.disk) (may : MayAdd s (change_of c))
-      (past : Keeps model store.journal.disk journal.disk)
-      (untold : model.content store.journal.disk ≡ None → model.content journal.disk ≡ None)
-      (p : List ℕ) (written : p ≡ payload (change_of c))
-      (given : IfTold (model.content journal.disk) (λ _. AtEachMoment model store.journal.disk journal.disk
-      (ShowsOne (payloads s.history) (option_map payload s.doubt) p))) where
-    moments : IfTold (model.content journal.disk) (λ _. AtEachMoment model store.journal.disk journal.disk
-        (ShowsOne (payloads s.history) (option_map payload s.doubt) (payload (change_of c))))
-    moments = subst (λ q. IfTold (model.content journal.disk) (λ _. AtEachMoment model store.journal.disk journal.disk
-        (ShowsOne (payloads s.history) (option_map payload s.doubt) q))) written given
+module _ {D : Type 0} (model : DiskModel D) (law : RunsStaySound) (heads : RebasesKeepHeads) (grow : RebasesGrow)
+    (store : StoreTerm D) (s : State) (h : StandsFor model store s) (c : Asked) (may : MayAdd s (change_of c))
+    (m : Memory) (pair : Paired D) (goes_a : Goes model (disk_a store.pair) (disk_a pair))
+    (goes_b : Goes model (disk_b store.pair) (disk_b pair))
+    (kept : pair.journal.header ≡ store.pair.journal.header) (p : List ℕ) (written : p ≡ payload (change_of c))
+    (given : (t : PairState) → StandsOnDisks model store.pair t → AtEachPair model store.pair pair
+    (PairMayOpen (λ w. PairMayShow t w ⊎ (w ≡ with_commit t.now p)))) where
+  abbrev new : StoreTerm D
+  new = record { memory = m; pair = pair }
 
-    serves : (t : State) → t.faults ≡ record { a = model.faults journal.disk; b = model.faults store.b } → Serves s t
-    serves t e = (
-      h.memory.serves,
-      (
-        omega (arith, le, ap (λ (f : Faults). f.a) h.counts, ap (λ (f : Faults). f.a) e),
-        omega (arith, ap (λ (f : Faults). f.b) h.counts, ap (λ (f : Faults). f.b) e),
-      ),
-    )
+  abbrev faults : Faults
+  faults = record { a = model.faults (disk_a pair); b = model.faults (disk_b pair) }
 
-    -- the disk counted a fault, and so does the state
-    a-rose : disk.Rose (model.faults store.journal.disk) (model.faults journal.disk)
-        → Rose s.faults.a (model.faults journal.disk)
-    a-rose r = subst (λ n. Rose n (model.faults journal.disk)) (sym (ap (λ (f : Faults). f.a) h.counts))
-        (rose (model.faults store.journal.disk) (model.faults journal.disk) r)
+  -- what is told of both disks was told before
+  stood : {P : Type 0} → (StandsOnDisks model store.pair (on_pair s) → P) → IfBothTold model pair P
+  stood f l is k it =
+      let a = told-before (model.content (disk_a store.pair)) (model.content (disk_a pair)) goes_a.untold l is in
+      let b = told-before (model.content (disk_b store.pair)) (model.content (disk_b pair)) goes_b.untold k it in
+      f (h.pair a.0 a.1 b.0 b.1)
 
-    -- the step of this commit, with its row
-    step : (t : State) (r : Reply) → t.faults ≡ record { a = model.faults journal.disk; b = model.faults store.b }
-        → Gives s 0 (event.Commit (change_of c)) r t → memory.StandsFor m (served t) → t.serves ≡ true
-        → t.copy ≡ None → t.finish ≡ None → t.base ≡ t.history.version → t.generation ≡ 0
-        → IsPlain t.history → Has model journal (payloads t.history) (option_map payload t.doubt)
-        → (IsDiskFault r → disk.Rose (model.faults store.journal.disk) (model.faults journal.disk))
-        → Calls (Stretches model) all store (record { memory = m; journal = journal; b = store.b }) s
-        ((event.Commit (change_of c), r) ∷ [])
-    step t r counts gives stands serving copy finish base generation flat has fault =
-        let new : StoreTerm D = record { memory = m; journal = journal; b = store.b } in
-        one-call model store new s t 0 (event.Commit (change_of c)) r refl h gives
-        (record {
-          memory = record {
-            sound = sound-after law s t 0 (event.Commit (change_of c)) r gives h.memory.sound;
-            serves = serving;
-            copy = copy;
-            finish = finish;
-            stands = stands;
-          };
-          plain = flat;
-          base = base;
-          generation = generation;
-          journal = has;
-          counts = counts;
-        })
-        refl past untold
-        (record {
-          fault = λ f. subst (λ (n : Faults). Rose s.faults.a n.a) (sym counts) (a-rose (fault f));
-          quiet = inl tt;
-        })
-        (λ other. absurd (other tt))
-        (λ l is image b. shows-one law store.memory s h.memory h.plain (step_of 0 (event.Commit (change_of c)) r s t
-        (times model store) (times model new)) (change_of c) image refl refl may (moments l is image b))
+  shows : (t : State) (r : Reply) (x y : List ℕ)
+      → PairMayOpen (λ w. PairMayShow (on_pair s) w ⊎ (w ≡ with_commit (on_pair s).now p)) x y
+      → Shows (step_of 0 (event.Commit (change_of c)) r s t (times model store) (times model new)) x y
+  shows t r x y (w, inl older, opens) =
+      let shown = shown-after law heads store.memory s h.memory x y (w, older, opens) in
+      (shown.0, shown.1, inl shown.2, shown.3)
+  shows t r x y (w, inr is, opens) = (
+    _,
+    s.generation,
+    inr (change_of c, refl, may, refl, refl),
+    shown-with law heads store.memory s h.memory (change_of c) may x y
+        (subst (λ (v : Written). PairOpens v x y)
+        (is ∙ ap (λ (q : List ℕ). with_commit (on_pair s).now q) written) opens),
+  )
 
-    pub done : memory.StandsFor m (served (committed s (change_of c)))
-        → Has model journal (payloads s.history ++ p ∷ []) None
-        → Gone store (record { memory = m; journal = journal; b = store.b }) s c (Ok m.version)
-    done ends has =
-        let told = change_of c in
-        let f : Faults = record { a = model.faults journal.disk; b = model.faults store.b } in
-        let t : State = record (committed s told) { faults = f } in
-        step t (reply.Committed m.version) refl
-        (serves t refl, (may, omega (arith, ends.version, length-append s.history.commits (told ∷ [])), refl))
-        ends h.memory.serves (ap (option_map one_more) h.memory.copy) refl h.base h.generation
-        (ap (λ k. grown k (told ∷ [])) h.plain)
-        (subst (λ ps. Has model journal ps None) (sym (map-append payload s.history.commits (told ∷ [])))
-        (subst (λ q. Has model journal (payloads s.history ++ q ∷ []) None) written has))
-        (λ f. absurd f)
+  -- the step of this commit, with its row
+  step : (t : State) (r : Reply) → t.faults ≡ faults → CommitGives s (change_of c) r t
+      → memory.StandsFor m (served t) → t.serves ≡ true → t.copy ≡ None
+      → (on_pair t).now.header ≡ (on_pair s).now.header
+      → IfBothTold model pair (StandsOnDisks model pair (on_pair t))
+      → Calls (Stretches model) all store new s ((event.Commit (change_of c), r) ∷ [])
+  step t r counts row stands serving none same disks =
+      let e = event.Commit (change_of c) in
+      let gives : Gives s 0 e r t = (
+        (
+          h.memory.serves,
+          (
+            omega (arith, goes_a.count.count, ap (λ (f : Faults). f.a) h.counts, ap (λ (f : Faults). f.a) counts),
+            omega (arith, goes_b.count.count, ap (λ (f : Faults). f.b) h.counts, ap (λ (f : Faults). f.b) counts),
+          ),
+        ),
+        row,
+      ) in
+      one-call model store new s t 0 e r refl h gives
+      (record {
+        memory = record {
+          sound = sound-after law s t 0 e r gives h.memory.sound;
+          serves = serving;
+          stands = stands;
+        };
+        header = kept ∙ (h.header ∙ sym same);
+        pair = disks;
+        lacks = subst (λ (o : Option Copying). MatchOption o (Unit {0}) (LacksNoMore t)) (sym none) tt;
+        counts = counts;
+        copy = none;
+      })
+      goes_a.past goes_b.past goes_a.untold goes_b.untold (inl tt) (λ other. absurd (other tt))
+      (λ l is k it x y i j. shows t r x y (stood (given (on_pair s)) l is k it l is k it x i y j))
 
-    module _ (ends : memory.StandsFor m (served s)) where
-      -- after a fault the state is as before, with this doubt
-      abbrev then : Option Change → State
-      then doubt = record s {
-        doubt = doubt;
+  pub done : memory.StandsFor m (served (committed s (change_of c)))
+      → ((t : PairState) → StandsOnDisks model store.pair t
+      → StandsOnDisks model pair (record t { now = with_commit t.now p; commit = None; finish = None }))
+      → Gone model store new s c (Ok m.version)
+  done ends disks =
+      let told = change_of c in
+      let t : State = record (committed s told) { faults = faults } in
+      let after = after-commit grow s told h.memory.sound in
+      step t (reply.Committed m.version) refl
+      (may, omega (arith, ends.version, length-append s.history.commits (told ∷ [])), refl)
+      ends h.memory.serves (ap (option_map one_more) h.copy)
+      (ap (λ (x : PairState). x.now.header) after)
+      (stood (λ stands. subst (StandsOnDisks model pair)
+      (ap (λ (q : List ℕ). record (on_pair s) {
+        now = with_commit (on_pair s).now q;
+        commit = None;
         finish = None;
-        faults = record { a = model.faults journal.disk; b = model.faults store.b };
-      }
+      }) written ∙ sym after) (disks (on_pair s) stands)))
 
-      with-doubt : (doubt : Option Change) (r : Reply) → CommitGives s (change_of c) r (then doubt)
-          → Has model journal (payloads s.history) (option_map payload doubt)
-          → (IsDiskFault r → disk.Rose (model.faults store.journal.disk) (model.faults journal.disk))
-          → Calls (Stretches model) all store
-          (record { memory = m; journal = journal; b = store.b }) s ((event.Commit (change_of c), r) ∷ [])
-      with-doubt doubt r row has fault =
-          step (then doubt) r refl (serves (then doubt) refl, row) ends h.memory.serves h.memory.copy refl h.base
-          h.generation h.plain has fault
+  module _ (ends : memory.StandsFor m (served s)) where
+    -- after a fault the state is as before, with these doubts
+    abbrev then : Option Change → Option ℕ → State
+    then doubt finish = record s { doubt = doubt; finish = finish; faults = faults }
 
-      older : (r : Reply)
-          → ((doubt : Option Change) → EndsDoubts s (then doubt) → CommitGives s (change_of c) r (then doubt))
-          → EndsOlder (Has model journal) (payloads s.history) (option_map payload s.doubt)
-          → (IsDiskFault r → disk.Rose (model.faults store.journal.disk) (model.faults journal.disk))
-          → Calls (Stretches model) all store
-          (record { memory = m; journal = journal; b = store.b }) s ((event.Commit (change_of c), r) ∷ [])
-      older r row e fault = elim e [
-        | inl has ↦ with-doubt s.doubt r (row s.doubt (inl refl, inr refl, refl)) has fault
-        | inr has ↦ with-doubt None r (row None (inr refl, inr refl, refl)) has fault
-      ]
+    with-doubts : (doubt : Option Change) (finish : Option ℕ) (r : Reply)
+        → CommitGives s (change_of c) r (then doubt finish)
+        → IfBothTold model pair (StandsOnDisks model pair (on_pair (then doubt finish)))
+        → Calls (Stretches model) all store new s ((event.Commit (change_of c), r) ∷ [])
+    with-doubts doubt finish r row disks =
+        step (then doubt finish) r refl row ends h.memory.serves h.copy refl disks
 
-      some-rose : disk.Rose (model.faults store.journal.disk) (model.faults journal.disk) → (doubt : Option Change)
-          → SomeRose s.faults (then doubt).faults
-      some-rose r doubt = inl (a-rose r)
+    -- the doubts that two disks have are ones of the machine
+    record Older : Type 0 where
+      doubt : Option Change
+      finish : Option ℕ
+      doubt_is : StaysOrEnds s.doubt doubt
+      finish_is : StaysOrEnds s.finish finish
+      disks : IfBothTold model pair (StandsOnDisks model pair (on_pair (then doubt finish)))
 
-      by-fault : (f : CommitFault)
-          → PutGives (Err f) (Has model journal) (payloads s.history) (option_map payload s.doubt)
-          (payload (change_of c))
-          → OnFault (Err f) (disk.Rose (model.faults store.journal.disk) (model.faults journal.disk))
-          → Gone store (record { memory = m; journal = journal; b = store.b }) s c (Err f)
-      by-fault fault.Known has r = absurd has
-      by-fault fault.Absent has r = absurd has
-      by-fault fault.Withdrawn has r = absurd has
-      by-fault fault.Full has r = absurd has
-      by-fault (fault.DiskFault true) has r =
-          with-doubt (Some (change_of c)) (reply.DiskFault true) (may, some-rose r (Some (change_of c)), refl) has
-          (λ f. r)
-      by-fault (fault.DiskFault false) has r =
-          older (reply.DiskFault false) (λ doubt e. (may, some-rose r doubt, e)) has (λ f. r)
-      by-fault fault.Worn has r = absurd has
-      by-fault fault.NoMemory has r = older reply.NoMemory (λ doubt e. e) has (λ f. absurd f)
+    commit-of : (o : Option (List ℕ)) → (o ≡ (on_pair s).commit) ⊎ (o ≡ None)
+        → (doubt : Option Change) × StaysOrEnds s.doubt doubt × (o ≡ option_map payload doubt)
+    commit-of o (inl e) = (s.doubt, inl refl, e)
+    commit-of o (inr e) = (None, inr refl, e)
 
-      faulted : (f : CommitFault)
-          → PutGives (Err f) (Has model journal) (payloads s.history) (option_map payload s.doubt) p
-          → OnFault (Err f) (disk.Rose (model.faults store.journal.disk) (model.faults journal.disk))
-          → Gone store (record { memory = m; journal = journal; b = store.b }) s c (Err f)
-      faulted f has r = by-fault f
-          (subst (λ q. PutGives (Err f) (Has model journal) (payloads s.history)
-          (option_map payload s.doubt) q) written has) r
+    finish-of : (o : Option Written) → (o ≡ (on_pair s).finish) ⊎ (o ≡ None)
+        → (finish : Option ℕ) × StaysOrEnds s.finish finish × (o ≡ option_map (whole_copy s) finish)
+    finish-of o (inl e) = (s.finish, inl refl, e)
+    finish-of o (inr e) = (None, inr refl, e)
 
-      pub faulted-result : (f : CommitFault) (r : Result ℕ CommitFault) → IsErrAnd r (λ e. e ≡ f)
-          → PutGives (Err f) (Has model journal) (payloads s.history) (option_map payload s.doubt) p
-          → OnFault (Err f) (disk.Rose (model.faults store.journal.disk) (model.faults journal.disk))
-          → Gone store (record { memory = m; journal = journal; b = store.b }) s c r
-      faulted-result f (Ok x) is has r = absurd is
-      faulted-result f (Err e) is has r =
-          subst (λ g. Gone store (record { memory = m; journal = journal; b = store.b }) s c (Err g)) (sym is)
-          (faulted f has r)
+    told : EndsOlder (StandsOnDisks model pair) (on_pair s) → Older
+    told e =
+        let c = commit-of e.commit e.commit_is in
+        let f = finish-of e.finish e.finish_is in
+        record {
+          doubt = c.0;
+          finish = f.0;
+          doubt_is = c.1;
+          finish_is = f.1;
+          disks = λ l is k it. subst (λ (o : Option (List ℕ)).
+              StandsOnDisks model pair (record (on_pair s) { commit = o; finish = option_map (whole_copy s) f.0 })) c.2
+              (subst (λ (o : Option Written).
+              StandsOnDisks model pair (record (on_pair s) { commit = e.commit; finish = o })) f.2 e.stands);
+        }
+
+    -- where a disk does not tell its content, nothing is said of the doubts
+    untold : IfBothTold model pair ⊥ → Older
+    untold never = record {
+      doubt = s.doubt;
+      finish = s.finish;
+      doubt_is = inl refl;
+      finish_is = inl refl;
+      disks = λ l is k it. absurd (never l is k it);
+    }
+
+    older-doubts : IfBothTold model pair (EndsOlder (StandsOnDisks model pair) (on_pair s)) → Older
+    older-doubts gives = go (model.content (disk_a pair)) (model.content (disk_b pair)) refl refl
+      where
+        none-some : {X : Type 0} {x : X} → None ≡ Some x → ⊥
+        none-some e = cc e
+
+        go : (a b : Option (List ℕ)) → model.content (disk_a pair) ≡ a → model.content (disk_b pair) ≡ b → Older
+        go None b is it = untold (λ l told k too. none-some (sym is ∙ told))
+        go (Some l) None is it = untold (λ n told k too. none-some (sym it ∙ too))
+        go (Some l) (Some k) is it = told (gives l is k it)
+
+    older : (r : Reply)
+        → ((t : State) → EndsDoubts s t → t.faults ≡ faults → CommitGives s (change_of c) r t)
+        → IfBothTold model pair (EndsOlder (StandsOnDisks model pair) (on_pair s))
+        → Calls (Stretches model) all store new s ((event.Commit (change_of c), r) ∷ [])
+    older r row gives =
+        let o = older-doubts gives in
+        with-doubts o.doubt o.finish r
+        (row (then o.doubt o.finish) (o.doubt_is, o.finish_is, refl) refl) o.disks
+
+    -- a disk counted a fault, and so does the state
+    abbrev Failed : Type 0
+    Failed = disk.Faulted model (disk_a store.pair) (disk_a pair) ⊎ disk.Faulted model (disk_b store.pair) (disk_b pair)
+
+    some-rose : Failed → (t : State) → t.faults ≡ faults → SomeRose s.faults t.faults
+    some-rose (inl r) t counts = inl (subst (λ n. Rose n t.faults.a) (sym (ap (λ (f : Faults). f.a) h.counts))
+        (subst (λ n. Rose (model.faults (disk_a store.pair)) n) (sym (ap (λ (f : Faults). f.a) counts))
+        (rose (model.faults (disk_a store.pair)) (model.faults (disk_a pair)) r)))
+    some-rose (inr r) t counts = inr (subst (λ n. Rose n t.faults.b) (sym (ap (λ (f : Faults). f.b) h.counts))
+        (subst (λ n. Rose (model.faults (disk_b store.pair)) n) (sym (ap (λ (f : Faults). f.b) counts))
+        (rose (model.faults (disk_b store.pair)) (model.faults (disk_b pair)) r)))
+
+    pub faulted : (f : PutFault)
+        → ((t : PairState) → StandsOnDisks model store.pair t → AppendGives (Err f) (StandsOnDisks model pair) t p)
+        → OnFault (Err f) Failed → Gone model store new s c (Err (commit_fault f))
+    faulted (put.DiskFault true) gives failed =
+        with-doubts (Some (change_of c)) None (reply.DiskFault true)
+        (may, some-rose failed (then (Some (change_of c)) None) refl, refl)
+        (stood (λ stands. subst (λ (q : List ℕ). StandsOnDisks model pair (record (on_pair s) {
+          commit = Some q;
+          finish = None;
+        })) written (gives (on_pair s) stands)))
+    faulted (put.DiskFault false) gives failed =
+        older (reply.DiskFault false) (λ t ended counts. (may, some-rose failed t counts, ended))
+        (stood (gives (on_pair s)))
+    faulted put.NoMemory gives failed =
+        older reply.NoMemory (λ t ended counts. ended) (stood (gives (on_pair s)))

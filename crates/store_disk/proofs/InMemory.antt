@@ -1,20 +1,28 @@
 -- Failures that are set change nothing of what a store on disks in memory stands for. Where none is set and nothing was
 -- committed, it stands for the state with which the machine begins.
-use Rattle.std.proofs.Common.{◌≡◌, ◌-◌, ◌∙◌, ap, arith, Bool, Err, false, List, [], ◌∷◌, map, nat_cmp, None, Ok, OnOk, Option, option_map, refl, Result, Some, subst, suc, sym, take, true, zero, ℕ}
+use Rattle.std.proofs.Common.{◌≡◌, ◌-◌, ◌++◌, ◌∙◌, ap, arith, Bool, Err, false, inl, inr, List, [], ◌∷◌, map, nat_cmp, None, Ok, OnOk, Option, refl, Result, Some, subst, suc, sym, take, true, zero, ℕ}
 use Rattle.std.proofs.lemmas.Bool.{true≢false}
-use Rattle.std.proofs.lemmas.List.{append-nil}
 use Rattle.std.specs.FinMap.{empty as none, get, get-empty}
+use Rattle.std.specs.List.{AllByRecursion}
 use Rattle.std.specs.Result.{is_err}
 use Rattle.disk_edge.specs.Disk.{Bounded}
 use Rattle.disk_edge.specs.Failures.{bound_of}
 use Rattle.disk_edge.specs.Medium.{Medium, model}
 use Rattle.disk_edge.specs.MediumLaws.{within}
 use Rattle.disk_edge.specs.declared.failures.Failures.{Failures}
-use Rattle.journal_core.specs.RecordLaws.{one_list, text_opens}
-use Rattle.journal_core.specs.Records.{Opens, header, text}
+use Rattle.disk_pair.specs.Changed.{changed, changed_other}
+use Rattle.disk_pair.specs.Pairs.{History as Written, PairOpens}
+use Rattle.disk_pair.specs.Stands.{Beside, Has}
+use Rattle.disk_pair.specs.Term.{Paired, disk_a, disk_b, disk_of}
+use Rattle.disk_pair.specs.declared.choice.Which.TheVariants.{First}
+use Rattle.disk_pair.specs.declared.other.Other.{Other}
+use Rattle.disk_pair.specs.declared.other.Other.TheVariants.{Idle, Copy}
+use Rattle.journal_core.specs.Fronts.{IsFront, IsOpen, no_base}
+use Rattle.journal_core.specs.Records.{IsShort, header, prefix, text}
 use Rattle.journal_core.specs.Standing.{Standing}
-use Rattle.store_core.specs.Stored.{empty}
-use Rattle.store_machine.specs.History.{after_changes, begun, of_commits, snapshot}
+use Rattle.journal_core.specs.declared.format.TheConstants.{CLOSED}
+use Rattle.store_core.specs.Stored.{StoreTerm as Memory, empty}
+use Rattle.store_machine.specs.History.{after_changes, begun, snapshot}
 use Rattle.store_machine.specs.Machine.{AreNeeded}
 use Rattle.store_machine.specs.Openings.{IsOpened}
 use Rattle.store_machine.specs.declared.machine.Change.{Change}
@@ -27,21 +35,19 @@ use Rattle.store_machine.specs.declared.machine.State.{State}
 use Rattle.store_machine.specs.declared.machine.Status.{Status}
 use Rattle.store_disk.specs.InMemory.{StandsInMemory}
 use Rattle.store_disk.specs.Loads.{OpensTo}
-use Rattle.store_disk.specs.OnDisk.{Has, StoreTerm}
-use Rattle.store_disk.specs.Payloads.{payload, payloads}
+use Rattle.store_disk.specs.OnDisk.{StoreTerm, on_pair}
+use Rattle.store_disk.specs.Payloads.{base_payload, history_of, payload}
 
-abbrev pub set-once : Medium → Option ℕ → Medium
-set-once d call = record d { failures = record d.failures { once = call } }
+-- the failures of a disk, set anew
+abbrev pub set : (Medium → Failures) → Medium → Medium
+set f d = record d { failures = f d }
 
-abbrev pub set-passes : Medium → Option ℕ → Medium
-set-passes d calls = record d { failures = record d.failures { passes = calls } }
-
-has-still : (journal : Standing Medium) (f : Failures) (ps : List (List ℕ)) (doubt : Option (List ℕ))
-    → Has model journal ps doubt
-    → Has model (record journal { disk = record journal.disk { failures = f } }) ps doubt
-has-still journal f ps None h =
+has-still : (journal : Standing Medium) (f : Failures) (front : List ℕ) (ps : List (List ℕ)) (doubt : Option (List ℕ))
+    → Has model journal front ps doubt
+    → Has model (record journal { disk = record journal.disk { failures = f } }) front ps doubt
+has-still journal f front ps None h =
     (h.0, λ l is. let r = h.1 l is in record { told = r.told; is_told = r.is_told; place = r.place; each = r.each })
-has-still journal f ps (Some p) h = (
+has-still journal f front ps (Some p) h = (
   h.0,
   λ l is. let r = h.1 l is in record {
     told = r.told;
@@ -53,42 +59,141 @@ has-still journal f ps (Some p) h = (
   },
 )
 
+beside-still : (f : Medium → Failures) (second : Bool) (g : ℕ) (finish copy : Option Written) (other : Other Medium)
+    → Beside model second g finish copy other → Beside model second g finish copy (changed_other (set f) other)
+beside-still f second g finish copy (Idle disk doubtful) h = h
+beside-still f second g finish copy (Copy carry) h =
+    let c = h.1.2 in (
+      h.0,
+      (
+        h.1.0,
+        h.1.1,
+        record {
+          header = c.header;
+          next = c.next;
+          range = c.range;
+          bases = c.bases;
+          fit = c.fit;
+          copies = λ l is. let k = c.copies l is in record {
+            gate = k.gate;
+            shut = k.shut;
+            stands = k.stands;
+            place = k.place;
+            bases = k.bases;
+            fit = k.fit;
+            fit_commits = k.fit_commits;
+          };
+        },
+      ),
+    )
+
+-- with the failures of disk `a` set anew a store stands for the same, where the count stays
+module _ (f : Medium → Failures) (same : (d : Medium) → (f d).count ≡ d.failures.count) (memory : Memory) (s : State)
+  where
+    abbrev of_pair : Paired Medium → StoreTerm Medium
+    of_pair pair = record { memory = memory; pair = pair }
+
+    still : (journal : Standing Medium) (other : Other Medium) (second : Bool)
+        → StandsInMemory (of_pair (record { journal = journal; other = other; second = second })) s
+        → StandsInMemory
+        (of_pair (changed First (set f) (record { journal = journal; other = other; second = second }))) s
+    still journal other false h = record {
+      memory = h.memory;
+      header = h.header;
+      pair = λ l is m it.
+          let p = h.pair l is m it in
+          record {
+            front = p.front;
+            is_front = p.is_front;
+            header = p.header;
+            journal = has-still journal (f journal.disk) p.front (on_pair s).now.commits (on_pair s).commit p.journal;
+            other = p.other;
+          };
+      lacks = h.lacks;
+      counts = h.counts ∙ (λ i. record { a = sym (same journal.disk) i; b = model.faults (disk_of other) });
+      copy = h.copy;
+    }
+    still journal (Idle disk doubtful) true h = record {
+      memory = h.memory;
+      header = h.header;
+      pair = λ l is m it.
+          let p = h.pair l is m it in
+          record {
+            front = p.front;
+            is_front = p.is_front;
+            header = p.header;
+            journal = p.journal;
+            other = beside-still f true (on_pair s).now.header.generation (on_pair s).finish (on_pair s).copy
+                (Idle disk doubtful) p.other;
+          };
+      lacks = h.lacks;
+      counts = h.counts ∙ (λ i. record { a = sym (same disk) i; b = model.faults journal.disk });
+      copy = h.copy;
+    }
+    still journal (Copy carry) true h = record {
+      memory = h.memory;
+      header = h.header;
+      pair = λ l is m it.
+          let p = h.pair l is m it in
+          record {
+            front = p.front;
+            is_front = p.is_front;
+            header = p.header;
+            journal = p.journal;
+            other = beside-still f true (on_pair s).now.header.generation (on_pair s).finish (on_pair s).copy
+                (Copy carry) p.other;
+          };
+      lacks = h.lacks;
+      counts = h.counts ∙ (λ i. record { a = sym (same carry.disk) i; b = model.faults journal.disk });
+      copy = h.copy;
+    }
+
 pub once-set : (store : StoreTerm Medium) (call : Option ℕ) (s : State) → StandsInMemory store s
-    → StandsInMemory (record store { journal = record store.journal { disk = set-once store.journal.disk call } }) s
-once-set store call s h = record {
-  memory = h.memory;
-  plain = h.plain;
-  base = h.base;
-  generation = h.generation;
-  journal = has-still store.journal (record store.journal.disk.failures { once = call }) (payloads s.history)
-      (option_map payload s.doubt) h.journal;
-  counts = h.counts;
-}
+    → StandsInMemory (record store { pair = changed First (set (λ d. record d.failures { once = call })) store.pair }) s
+once-set store call s h = still (λ d. record d.failures { once = call }) (λ d. refl) store.memory s store.pair.journal
+    store.pair.other store.pair.second h
 
 pub passes-set : (store : StoreTerm Medium) (calls : Option ℕ) (s : State) → StandsInMemory store s
-    → StandsInMemory (record store { journal = record store.journal { disk = set-passes store.journal.disk calls } }) s
-passes-set store calls s h = record {
-  memory = h.memory;
-  plain = h.plain;
-  base = h.base;
-  generation = h.generation;
-  journal = has-still store.journal (record store.journal.disk.failures { passes = calls }) (payloads s.history)
-      (option_map payload s.doubt) h.journal;
-  counts = h.counts;
+    → StandsInMemory
+    (record store { pair = changed First (set (λ d. record d.failures { passes = calls })) store.pair }) s
+passes-set store calls s h = still (λ d. record d.failures { passes = calls }) (λ d. refl) store.memory s
+    store.pair.journal store.pair.other store.pair.second h
+
+-- no payloads are those of nothing
+none-mapped : {A : Type 0} (f : A → List ℕ) (xs : List A) → map f xs ≡ [] → xs ≡ []
+none-mapped f [] e = refl
+none-mapped f (x ∷ xs) e = cc e
+
+-- what a new store has on its disk
+abbrev new-disk : Written
+new-disk = record { header = no_base; base = []; commits = [] }
+
+new-front : IsFront no_base [] header
+new-front = record {
+  is = inl (refl, refl, refl);
+  count = refl;
+  fit = tt;
+  range = record { generation = omega arith; base_version = omega arith; base_count = omega arith };
 }
 
--- no payloads are those of no commits
-no-commits : (cs : List Change) → map payload cs ≡ [] → cs ≡ []
-no-commits [] e = refl
-no-commits (c ∷ cs) e = cc e
+none-open : IsOpen [] → ⊥
+none-open (g, inl o) = cc o.0
+none-open (g, inr o) = omega (arith, o.0)
 
 -- where nothing was written nothing was committed
-pub none-yet : (h : History) → OpensTo h (text header []) → h ≡ begun
-none-yet h o =
-    let opens : Opens header [] (text header []) =
-    subst (Opens header []) (append-nil (text header [])) (text_opens header [] [] tt) in
-    o.plain
-    ∙ ap of_commits (no-commits h.commits (one_list header (payloads h) [] (text header []) o.opens opens))
+pub none-yet : ((h : Written) (front rest b : List ℕ) → IsFront h.header h.base front
+    → AllByRecursion IsShort h.commits → ¬ IsOpen b → PairOpens h (prefix front h.commits ++ CLOSED ∷ rest) b)
+    → ((h k : Written) (a b : List ℕ) → PairOpens h a b → PairOpens k a b → h ≡ k)
+    → (h : History) (g : ℕ) → OpensTo h g (text header []) [] → (h ≡ begun) × (g ≡ 0)
+none-yet first one h g o =
+    let same = one (history_of g h) new-disk (text header []) [] o.opens
+    (first new-disk header [] [] new-front tt none-open) in
+    let base = none-mapped base_payload h.base (ap (λ (w : Written). w.base) same) in
+    let commits = none-mapped payload h.commits (ap (λ (w : Written). w.commits) same) in
+    let version = ap (λ (w : Written). w.header.base_version) same in (
+      λ i. record { base = base i; version = version i; commits = commits i },
+      ap (λ (w : Written). w.header.generation) same,
+    )
 
 pub at-ok : {T E P : Type 0} (r : Result T E) → is_err r ≡ false → OnOk r P → P
 at-ok (Ok x) e p = p
@@ -147,14 +252,14 @@ first-state commits limit h pins kept base generation copy doubt finish faults s
 
 -- a store that was just opened, without commits and failures, stands for the state with which the machine begins
 pub stands-empty : (store : StoreTerm Medium) (commits : ℕ) (s : State) → StandsInMemory store s → IsOpened commits s
-    → s.history ≡ begun → bound_of store.journal.disk.failures ≡ Some 0 → bound_of store.b.failures ≡ Some 0
-    → StandsInMemory store (empty commits)
-stands-empty store commits s stands opened none a b =
+    → s.history ≡ begun → s.generation ≡ 0 → bound_of (disk_a store.pair).failures ≡ Some 0
+    → bound_of (disk_b store.pair).failures ≡ Some 0 → StandsInMemory store (empty commits)
+stands-empty store commits s stands opened none generation a b =
     let none_kept : s.kept ≡ [] = none-needed s s.kept none opened.kept in
     let zero : s.faults ≡ record { a = 0; b = 0 } = stands.counts
-    ∙ rw (no-fault store.journal.disk a, no-fault store.b b) refl in
-    let base : s.base ≡ 0 = stands.base ∙ ap (λ (h : History). h.version) none in
+    ∙ rw (no-fault (disk_a store.pair) a, no-fault (disk_b store.pair) b) refl in
+    let base : s.base ≡ 0 = opened.base ∙ ap (λ (h : History). h.version) none in
     let is : s ≡ empty commits = first-state commits s.limit s.history s.pins s.kept s.base s.generation s.copy s.doubt
-    s.finish s.faults s.serves none opened.limit opened.pins none_kept base stands.generation opened.copy opened.doubt
+    s.finish s.faults s.serves none opened.limit opened.pins none_kept base generation opened.copy opened.doubt
     opened.finish zero stands.memory.serves in
     subst (StandsInMemory store) is stands

@@ -1,238 +1,226 @@
--- A loading: what is read, made again, and opened.
-use Rattle.std.proofs.Common.{◌≡◌, ◌↔◌, ◌∙◌, ◌++◌, ap, arith, Contains, Err, false, length, List, [], ◌∷◌, None, Ok, Option, refl, Result, Some, subst, sym, true, ℕ, map}
+-- A journal that was just opened is read to its end, and made again in memory.
+use Rattle.std.proofs.Common.{◌≡◌, ◌⊎◌, ◌+◌, ◌*◌, ◌++◌, ◌≤◌, ◌∙◌, ap, arith, inl, inr, length, List, [], ◌∷◌, map, refl, subst, sym, ℕ}
 use Rattle.std.proofs.lemmas.List.{length-map}
 use Rattle.std.specs.List.{AllByRecursion}
-use Rattle.commit_log.specs.Change.{Change as Logged}
-use Rattle.commit_log.specs.Log.{IsLog, IsLogged, end_of, payloads as log_payloads}
+use Rattle.commit_log.specs.Base.{AreEntries, DamagesBase, TakesBase, base_payloads, entries_of}
+use Rattle.commit_log.specs.Entry as entry
+use Rattle.commit_log.specs.Entry.{Entry}
+use Rattle.commit_log.specs.Log.{DamagesLog, IsLog, Takes, changes_of, payloads as log_payloads}
+use Rattle.commit_log.specs.declared.base.BaseEntry.{BaseEntry}
+use Rattle.commit_log.specs.declared.change.Commit.{Commit}
 use Rattle.disk_edge.specs.Disk.{DiskModel, IfTold}
-use Rattle.journal_core.proofs.FrontLaws.{first_part, second_no_header, second_part}
-use Rattle.journal_core.specs.Answers.{OnDamaged}
-use Rattle.journal_core.specs.Fronts.{IsPart}
+use Rattle.disk_pair.specs.Pairs.{OpensAs}
+use Rattle.journal_core.proofs.FrontLaws.{whole_front}
+use Rattle.journal_core.specs.Fronts.{IsFront, IsPart, front_of}
 use Rattle.journal_core.specs.Journal.{Reads, Rests}
-use Rattle.journal_core.specs.Looks.{Looks}
-use Rattle.journal_core.specs.Records.{IsNoJournal, Opens, header}
-use Rattle.journal_core.specs.RecordLaws.{prefix_nil}
+use Rattle.journal_core.specs.Records.{IsShort, Opens}
 use Rattle.journal_core.specs.Standing.{Standing}
-use Rattle.journal_core.specs.declared.faults.LoadFault.{LoadFault}
-use Rattle.journal_core.specs.declared.faults.LoadFault.TheVariants as fault
-use Rattle.store_core.specs.Calls.{Calls, NeedsNone, is_worn}
-use Rattle.store_core.specs.Replies.{prune_calls}
-use Rattle.store_core.specs.Stored as memory
-use Rattle.store_core.specs.Stored.{StoreTerm as Memory, served}
-use Rattle.store_core.specs.declared.words.CallFault.{CallFault}
-use Rattle.store_core.specs.declared.words.CallFault.TheVariants as call
-use Rattle.store_machine.specs.History.{head, of_commits}
-use Rattle.store_machine.specs.Kept.{IsNeeded, copied}
-use Rattle.store_machine.specs.declared.machine.Change.{Change}
-use Rattle.store_machine.specs.declared.machine.Copying.{Copying}
-use Rattle.store_machine.specs.declared.machine.Faults.{Faults}
+use Rattle.journal_core.specs.declared.format.TheConstants.{LONGEST_PAYLOAD}
+use Rattle.journal_core.specs.declared.header.Header.{Header}
+use Rattle.store_core.specs.Stored.{StoreTerm as Memory}
+use Rattle.store_machine.specs.History.{head}
 use Rattle.store_machine.specs.declared.machine.History.{History}
-use Rattle.store_machine.specs.Machine.{AreNeeded}
-use Rattle.store_machine.specs.Openings.{IsOpened}
-use Rattle.store_machine.specs.declared.machine.Entry.{Entry}
-use Rattle.store_machine.specs.declared.machine.Event.TheVariants as event
-use Rattle.store_machine.specs.declared.machine.Reply.TheVariants as reply
-use Rattle.store_machine.specs.declared.machine.State.{State}
-use Rattle.store_disk.specs.OnDisk.{IsPlain, IsReady, StandsFor}
-use Rattle.store_disk.specs.Loads.{OpensTo}
-use Rattle.store_disk.specs.Payloads.{payloads, told}
-use Rattle.store_disk.specs.Replays.{IsLoaded, IsReplayed}
-use Rattle.store_disk.proofs.Logged.{end-near}
-use Rattle.store_disk.proofs.Payloads.{same-payloads}
-use Rattle.store_disk.proofs.Steps.{all, one}
+use Rattle.store_disk.specs.Loads.{DamagesDisk, IsBegun}
+use Rattle.store_disk.specs.Payloads.{base_payload, history_of, told, told_entry, told_history}
+use Rattle.store_disk.specs.Replays.{IsLoaded, IsOpening, IsReplayed, LacksText, RestsAs, Stops}
+use Rattle.store_disk.proofs.Logged.{base-near, end-near, lacks-structure, may-not-follow}
+use Rattle.store_disk.proofs.Payloads.{same-bases, same-payloads}
 
-still-needed : (s t : State) (kept : List Entry) → t ≡ record s { kept = t.kept; faults = t.faults } → AreNeeded s kept
-    → AreNeeded t kept
-still-needed s t kept is n =
-    subst (λ (x : State). AreNeeded x kept) (sym is) (record { exactly = n.exactly; distinct = n.distinct })
+-- by what was passed
+pub as-read : (P : ℕ → List (ℕ × BaseEntry) → List Commit → Type 0) (v w : ℕ) (base found : List (ℕ × BaseEntry))
+    (log read : List Commit) → v ≡ w → base ≡ found → log ≡ read → P v base log → P w found read
+as-read P v w base found log read e f g p =
+    subst (λ x. P x found read) e (subst (λ b. P v b read) f (subst (λ l. P v base l) g p))
 
--- a state as an opening leaves it, of what another has in memory
-abbrev pub rested : State → ℕ → Faults → State
-rested s commits faults = record {
-  history = s.history;
-  limit = commits;
-  pins = s.pins;
-  kept = s.kept;
-  base = s.history.version;
-  generation = 0;
-  copy = None;
-  doubt = None;
-  finish = None;
-  faults = faults;
-  serves = true;
-}
+all-short : (version last : ℕ) (es : List Entry) → AreEntries version last es
+    → AllByRecursion IsShort (base_payloads es)
+all-short version last [] are = tt
+all-short version last (e ∷ es) are = (are.1, all-short version e.id es are.2)
 
--- it needs the same, where no copy ran
-needed-rested : (s : State) (commits : ℕ) (faults : Faults) → s.copy ≡ None → AreNeeded s s.kept
-    → AreNeeded (rested s commits faults) s.kept
-needed-rested s commits faults none n = record {
-  exactly = λ entry. subst
-      (λ (o : Option Copying). (Contains s.kept entry ↔ IsNeeded s.history
-      (map (λ p. p.version) s.pins ++ (copied o ++ head s.history ∷ [])) entry)) none (n.exactly entry);
-  distinct = n.distinct;
-}
+no-entries : {A B : Type 0} (f : List A → List B) (xs : List A) → f [] ≡ [] → length xs ≡ 0 → f xs ≡ []
+no-entries f [] e none = e
+no-entries f (x ∷ xs) e none = absurd (omega (arith, none))
 
--- what a prune leaves of a store that has no pins, with its limit
-pub opened-after : (old new : Memory) (s : State) (commits : ℕ) (r : Result ℕ CallFault) → NeedsNone r
-    → (is_worn r ≡ true → ⊥) → s.pins ≡ [] → s.doubt ≡ None → Calls memory.Stretches all old new s (prune_calls r)
-    → (t : State) × memory.IsAt new t × (t.history ≡ s.history) × IsOpened commits (rested t commits t.faults)
-opened-after old new s commits (Err call.Worn) none worn pins doubt c = absurd (worn refl)
-opened-after old new s commits (Err call.NoMemory) none worn pins doubt c = absurd none
-opened-after old new s commits (Ok n) none worn pins doubt c =
-    let x = one old new s event.Prune (reply.Pruned n) c in
-    let t : State = x.after in
-    let needed : AreNeeded t t.kept = still-needed s t t.kept x.gives.1.2 x.gives.1.0 in (
-      t,
-      x.ends,
-      ap (λ (y : State). y.history) x.gives.1.2,
-      record {
-        serves = refl;
-        limit = refl;
-        pins = ap (λ (y : State). y.pins) x.gives.1.2 ∙ pins;
-        base = refl;
-        copy = refl;
-        doubt = refl;
-        finish = refl;
-        kept = needed-rested t commits t.faults x.ends.copy needed;
-      },
-    )
+module _ {D : Type 0} (model : DiskModel D) (old : Standing D) (opening : IsOpening model old) where
+  module _ (few : old.header.base_version ≤ 16777215) where
+    -- its base is damaged
+    pub states : 1 ≤ old.left → (at : ℕ) → ((before : List (List ℕ))
+        → Reads model old (front_of old.header before) [] → IfTold (model.content old.disk)
+        (DamagesBase old.header before old.left at)) → IfTold (model.content old.disk) (DamagesDisk at)
+    states some at damaged l is =
+        let r = opening.reads l is in
+        elim r.1.is [
+          | inl one ↦
+              let none : old.header.base_count ≡ 0 = ap (λ (h : Header). h.base_count) one.1 in
+              absurd (omega (arith, none, some, opening.left))
+          | inr two ↦ inr (inl (record {
+            header = old.header;
+            is = r.3;
+            few = few;
+            damage = subst (λ n. DamagesBase old.header [] n at l) opening.left
+                (damaged [] (subst (λ f. Reads model old f []) two r.2) l is);
+          }))
+        ]
 
--- what is in memory is at that state
-pub at-rest : (m : Memory) (s : State) (commits : ℕ) (faults : Faults)
-    → memory.StandsFor m (served (rested s commits faults)) → memory.IsAt m (rested s commits faults)
-at-rest m s commits faults h = record {
-  sound = record {
-    history = h.sound.history;
-    doubt = tt;
-    slots = h.sound.slots;
-    pins = h.sound.pins;
-    bases = record { base = (omega arith, omega arith); copy = tt; finish = tt };
-    kept = λ _. h.sound.kept refl;
-    made = λ _. h.sound.made refl;
-  };
-  serves = refl;
-  copy = refl;
-  finish = refl;
-  stands = h;
-}
+    module _ (found : List (ℕ × BaseEntry)) (mid : Standing D)
+        (takes : TakesBase old.header.base_version old.place found mid.place) (count : length found ≡ old.left)
+        (reads : (before : List (List ℕ)) → Reads model old (front_of old.header before) []
+        → Reads model mid (front_of old.header (before ++ base_payloads (entries_of found))) [])
+        (none : old.left ≡ 0 → mid ≡ old) (same : model.content mid.disk ≡ model.content old.disk) where
+      -- what stands in front of the commits is read
+      record Begins : Type 0 where
+        front : List ℕ
+        begun : IsBegun old.header (entries_of found) front
+        read : Reads model mid front []
 
--- a history that is some commits is its own
-flat-is : (h : History) (commits : List Change) → h ≡ of_commits commits → IsPlain h
-flat-is h commits is = is ∙ ap of_commits (sym (ap (λ (k : History). k.commits) is))
+      counted : old.header.base_count ≡ length (base_payloads (entries_of found))
+      counted = sym (length-map (entries_of found) entry.written ∙ (length-map found (λ one. entry.entry_of one.1)
+          ∙ (count ∙ opening.left)))
 
-some-same : {x y : List ℕ} → Some x ≡ Some y → x ≡ y
-some-same e = cc e
+      begun-by : (front : List ℕ) → IsPart old.header (base_payloads (entries_of found)) front
+          → Reads model mid front [] → Begins
+      begun-by front part read = record {
+        front = front;
+        begun = record {
+          is = whole_front old.header (base_payloads (entries_of found)) front part opening.range counted;
+          are = takes.entries;
+          few = few;
+        };
+        read = read;
+      }
 
-module _ {D : Type 0} (model : DiskModel D) where
-  -- a journal that begins at the first record of format 1 has read nothing behind its header
-  pub at-first : (content : Option (List ℕ)) (j : Standing D) → j.place ≡ 8
-      → IfTold content (λ _. (front : List ℕ) × IsPart j.header [] front × Reads model j front [])
-      → IfTold content (λ _. Reads model j header [])
-  at-first content j place ok l told =
-      let r = ok l told in
-      subst (λ (f : List ℕ). Reads model j f [])
-      (first_part j.header r.0 r.1 (sym (ap length (prefix_nil r.0)) ∙ sym r.2.place ∙ place)) r.2
+      shorts : AllByRecursion IsShort (base_payloads (entries_of found))
+      shorts = all-short old.header.base_version 0 (entries_of found) takes.entries
 
-  -- one that begins elsewhere is of format 2
-  pub is-second : (content : Option (List ℕ)) (j : Standing D) → (j.place ≡ 8 → ⊥) → model.content j.disk ≡ content
-      → IfTold content (λ _. (front : List ℕ) × IsPart j.header [] front × Reads model j front [])
-      → IfTold content IsNoJournal
-  is-second content j not same ok l told =
-      let r = ok l told in
-      let flat = ap length (prefix_nil r.0) in
-      let is : l ≡ r.0 ++ r.2.tail = some-same (sym told ∙ sym same ∙ r.2.is_told) ∙ r.2.is
-      ∙ ap (λ (f : List ℕ). f ++ r.2.tail) (prefix_nil r.0) in
-      second_no_header j.header [] r.2.tail l (is ∙ ap (λ (f : List ℕ). f ++ r.2.tail)
-      (second_part j.header r.0 r.1 (λ size. not (r.2.place ∙ flat ∙ size))))
+      begins : IfTold (model.content old.disk) (λ _. Begins)
+      begins l is =
+          let r = opening.reads l is in
+          elim r.1.is [
+            | inl one ↦
+                let left : old.left ≡ 0 = opening.left ∙ ap (λ (h : Header). h.base_count) one.1 in
+                begun-by r.0
+                (record {
+                  is = inl (
+                    one.0,
+                    one.1,
+                    no-entries (λ fs. base_payloads (entries_of fs)) found refl (count ∙ left),
+                  );
+                  fit = shorts;
+                })
+                (subst (λ (j : Standing D). Reads model j r.0 []) (sym (none left)) r.2)
+            | inr two ↦
+                begun-by (front_of old.header (base_payloads (entries_of found)))
+                (record { is = inr refl; fit = shorts })
+                (reads [] (subst (λ f. Reads model old f []) two r.2))
+          ]
 
-  same-history : (memory : Memory) (commits : ℕ) (cs : List Logged) (r : IsReplayed memory commits cs)
-      → log_payloads cs ≡ payloads r.state.history
-  same-history memory commits cs r = sym (ap payloads r.history ∙ same-payloads cs)
+      -- the log behind it is damaged
+      pub commits : (at : ℕ) → ((front : List ℕ) (before : List (List ℕ)) → Reads model mid front before
+          → IfTold (model.content mid.disk) (DamagesLog front before at))
+          → IfTold (model.content old.disk) (DamagesDisk at)
+      commits at damaged l is =
+          let b = begins l is in
+          inr (inr (inl (record {
+            header = old.header;
+            entries = entries_of found;
+            front = b.front;
+            begun = b.begun;
+            damage = damaged b.front [] b.read l (same ∙ is);
+          })))
 
-  pub loaded : (memory : Memory) (commits : ℕ) (cs : List Logged) (old new : Standing D) → IsReplayed memory commits cs
-      → (Reads model old header [] → IfTold (model.content old.disk) (IsLog header [] cs))
-      → (Reads model old header [] → Rests model new header (log_payloads cs))
-      → IsLoaded model memory commits old new
-  loaded memory commits cs old new r log rests = record {
-    state = r.state;
-    at = r.at;
-    plain = flat-is r.state.history (map told cs) r.history;
-    opened = r.opened;
-    opens = λ reads l is. record {
-      history = r.at.sound.history;
-      plain = flat-is r.state.history (map told cs) r.history;
-      few = omega (arith, r.at.stands.version, r.at.stands.within);
-      opens = subst (λ ps. Opens header ps l) (same-history memory commits cs r) (log reads l is).opens;
-    };
-    rests = λ reads. subst (Rests model new header) (same-history memory commits cs r) (rests reads);
-  }
+      module _ (log : List Commit) (new : Standing D) (logged : Takes mid.place log new.place)
+          (is-log : (front : List ℕ) (before : List (List ℕ)) → Reads model mid front before
+          → IfTold (model.content mid.disk) (IsLog front before (changes_of log))) where
+        -- they are no history
+        pub disallows : (at : ℕ) → LacksText found at ⊎ Stops old.header.base_version (entries_of found) log at
+            → IfTold (model.content old.disk) (DamagesDisk at)
+        disallows at refused l is =
+            let b = begins l is in
+            inr (inr (inr (record {
+              header = old.header;
+              entries = entries_of found;
+              front = b.front;
+              changes = changes_of log;
+              begun = b.begun;
+              log = is-log b.front [] b.read l (same ∙ is);
+              refused = elim refused [
+                | inl lacks ↦ inl (lacks-structure old.header found old.place mid.place at opening.start
+                    (count ∙ opening.left) takes lacks)
+                | inr stops ↦ inr (may-not-follow old.header.base_version (entries_of found) b.front log mid.place
+                    new.place at b.read.place logged stops)
+              ];
+            })))
 
-  pub is-ready : (memory : Memory) (commits : ℕ) (cs : List Logged) (new : Standing D) → IsReplayed memory commits cs
-      → new.ready ≡ true → new.place ≡ end_of 8 cs → AllByRecursion IsLogged cs → IsReady memory new
-  is-ready memory commits cs new r ready place logged = record {
-    stands = (served r.state, r.at.stands);
-    ready = ready;
-    few = r.at.stands.within;
-    place = omega (
-      arith,
-      end-near 8 cs logged,
-      place,
-      r.at.stands.version,
-      ap head r.history,
-      length-map cs told,
-    );
-  }
+        module _ (memory : Memory) (limit : ℕ)
+            (r : IsReplayed memory limit old.header.base_version (entries_of found) (changes_of log)) where
+          abbrev made : History
+          made = told_history old.header.base_version (entries_of found) (changes_of log)
 
-  pub opened-store : (memory : Memory) (commits : ℕ) (a b : D) (old new : Standing D)
-      → IsLoaded model memory commits old new → model.content old.disk ≡ model.content a
-      → model.content new.disk ≡ model.content old.disk
-      → IfTold (model.content a) (λ _. Reads model old header []) → new.doubt ≡ false
-      → (s : State) × StandsFor model (record { memory = memory; journal = new; b = b }) s
-      × IsOpened commits s × IfTold (model.content a) (OpensTo s.history)
-  opened-store memory commits a b old new x first second reads flag =
-      let t : State = x.state in
-      let faults : Faults = record { a = model.faults new.disk; b = model.faults b } in (
-        rested t t.limit faults,
-        record {
-          memory = at-rest memory t t.limit faults x.at.stands;
-          plain = x.plain;
-          base = refl;
-          generation = refl;
-          journal = (flag, λ l is. x.rests (reads l (sym (second ∙ first) ∙ is)));
-          counts = refl;
-        },
-        record {
-          serves = refl;
-          limit = x.opened.limit;
-          pins = x.opened.pins;
-          base = refl;
-          copy = refl;
-          doubt = refl;
-          finish = refl;
-          kept = needed-rested t t.limit faults x.opened.copy x.opened.kept;
-        },
-        λ l is. x.opens (reads l is) l (first ∙ is),
-      )
+          abbrev as-written : History → Header
+          as-written h = (history_of old.header.generation h).header
 
-  -- a crash after the reading leaves what is read
-  pub synced : (a : D) (old new : Standing D) → model.content old.disk ≡ model.content a
-      → Looks model old.disk new.disk → IfTold (model.content a) (λ _. Reads model old header [])
-      → IfTold (model.content new.disk) (model.images new.disk)
-  synced a old new first looks reads l is =
-      let was : model.content old.disk ≡ Some l = sym looks.narrows.same ∙ is in
-      let r = reads l (sym first ∙ was) in
-      let told : r.told ≡ l = some-same (sym r.is_told ∙ was) in
-      looks.no_fewer l (subst (model.images old.disk) told r.exactly.is)
+          same-header : old.header ≡ as-written made
+          same-header =
+              let n : old.header.base_count ≡ length (map told_entry (entries_of found)) =
+              counted ∙ length-map (entries_of found) entry.written ∙ sym (length-map (entries_of found) told_entry) in
+              λ i. record {
+                generation = old.header.generation;
+                base_version = old.header.base_version;
+                base_count = n i;
+              }
 
--- what holds of the place, where one is answered
-pub damaged-at : (T : Type 0) (f : LoadFault) (at : ℕ) (P : ℕ → Type 0) → f ≡ fault.Damaged at
-    → OnDamaged {T = T} (Err f) P → P at
-damaged-at T f at P is damage = subst (λ (x : LoadFault). OnDamaged {T = T} (Err x) P) is damage
+          same-front : (front : List ℕ) → IsFront old.header (base_payloads (entries_of found)) front
+              → IsFront (as-written made) (map base_payload made.base) front
+          same-front front is =
+              subst (λ (h : Header). IsFront h (map base_payload made.base) front) same-header
+              (subst (λ (ps : List (List ℕ)). IsFront old.header ps front) (sym (same-bases (entries_of found))) is)
 
-pub on-damaged : {T : Type 0} {P Q : ℕ → Type 0} (r : Result T LoadFault) → ((at : ℕ) → P at → Q at) → OnDamaged r P
-    → OnDamaged r Q
-on-damaged (Ok x) f p = tt
-on-damaged (Err fault.Disk) f p = tt
-on-damaged (Err fault.NotAStore) f p = tt
-on-damaged (Err (fault.Damaged at)) f p = f at p
-on-damaged (Err fault.NoMemory) f p = tt
+          pub loaded : ((front : List ℕ) (before : List (List ℕ)) → Reads model mid front before
+              → Rests model new front (before ++ log_payloads (changes_of log)))
+              → IsLoaded model memory limit old new
+          loaded rests = record {
+            state = r.state;
+            at = r.at;
+            opened = r.opened;
+            header = same-header ∙ ap as-written (sym r.history);
+            opens = λ l is. subst (λ (h : History). OpensAs (history_of old.header.generation h) l) (sym r.history)
+                (let b = begins l is in
+                record {
+                  front = b.front;
+                  is = same-front b.front b.begun.is;
+                  opens = subst (λ (ps : List (List ℕ)). Opens b.front ps l) (sym (same-payloads (changes_of log)))
+                      (is-log b.front [] b.read l (same ∙ is)).opens;
+                });
+            rests = λ l is. subst (RestsAs model new old.header.generation) (sym r.history)
+                (let b = begins l is in
+                record {
+                  front = b.front;
+                  is = same-front b.front b.begun.is;
+                  rests = subst (λ (ps : List (List ℕ)). Rests model new b.front ps)
+                      (sym (same-payloads (changes_of log))) (rests b.front [] b.read);
+                });
+          }
+
+          -- it ends far below the end of places
+          pub near : new.place ≤ 20 + (5 + LONGEST_PAYLOAD) * (old.header.base_count + memory.version)
+          near =
+              let start : old.place ≤ 20 = elim opening.start [
+                | inl one ↦ omega (arith, one.0)
+                | inr two ↦ omega (arith, two)
+              ] in
+              let bases = base-near old.header.base_version 0 old.place (entries_of found) takes.entries in
+              let ends = end-near mid.place (changes_of log) logged.logged in
+              omega (
+                arith,
+                start,
+                bases,
+                takes.ends,
+                ends,
+                logged.ends,
+                length-map found (λ one. entry.entry_of one.1),
+                count,
+                opening.left,
+                r.at.stands.version,
+                ap head r.history,
+                length-map (changes_of log) told,
+              )

@@ -1,13 +1,13 @@
 -- A record's payload is short, and a logged change is the machine's.
-use Rattle.std.proofs.Common.{◌≡◌, ◌≢◌, ◌⊎◌, ◌+◌, ◌++◌, ◌≤◌, ◌∙◌, ap, arith, Err, IfErr, IfOk, inl, inr, IsErrAnd, length, length-append, List, [], ◌∷◌, Ok, refl, Result, subst, sym, Vec, ℕ}
-use Rattle.std.specs.Arc.{arc_value}
+use Rattle.std.proofs.Common.{◌≡◌, ◌≢◌, ◌⊎◌, ◌+◌, ◌++◌, ◌≤◌, ◌∙◌, ap, arith, Err, IfErr, inl, inr, IsErrAnd, length, length-append, List, [], ◌∷◌, map, Ok, refl, Result, ℕ}
 use Rattle.std.specs.Int.{to_le_bytes, w32}
-use Rattle.std.specs.declared.alloc.AllocError.{AllocError}
-use Rattle.std.specs.declared.alloc.Global.{Global}
 use Rattle.chem_core.specs.Molecule.{Molecule}
 use Rattle.commit_log.specs.Change.{Change as Logged, format_byte, registered, revised, withdrawn, written}
 use Rattle.commit_log.specs.declared.change.Format.{Format as LoggedFormat}
 use Rattle.commit_log.specs.declared.change.Format.TheVariants as logged
+use Rattle.commit_log.specs.Base.{base_payloads}
+use Rattle.commit_log.specs.Entry as entry
+use Rattle.commit_log.specs.Entry.{Entry, EntryState}
 use Rattle.commit_log.specs.Log.{payloads as log_payloads}
 use Rattle.journal_core.specs.Records.{IsShort}
 use Rattle.mol_finish.specs.Structure.{HasMolecule, IsAnswer}
@@ -15,14 +15,11 @@ use Rattle.mol_finish.specs.declared.fault.Format.{Format}
 use Rattle.mol_finish.specs.declared.fault.Format.TheVariants.{Smiles, Molfile}
 use Rattle.mol_finish.specs.declared.fault.TextFault.{TextFault}
 use Rattle.mol_finish.specs.declared.fault.TextFault.TheVariants.{NoMemory}
-use Rattle.store_core.specs.Replies.{IsSoundChange, change_of}
-use Rattle.store_core.specs.declared.words.Change.{Change as Asked}
-use Rattle.store_core.specs.declared.words.Change.TheVariants as asked
-use Rattle.store_machine.specs.History.{IsValid}
+use Rattle.store_machine.specs.History.{IsValid, made_at}
 use Rattle.store_machine.specs.Structures.{IsText}
 use Rattle.store_machine.specs.declared.machine.Change.{Change}
 use Rattle.store_machine.specs.declared.machine.Change.TheVariants.{Register, Revise, Withdraw}
-use Rattle.store_disk.specs.Payloads.{history_of, logged_change, logged_format, payload, payloads, stored_format, told}
+use Rattle.store_disk.specs.Payloads.{base_payload, logged_change, logged_entry, logged_format, logged_state, payload, stored_format, told, told_entry, told_state}
 
 -- a text that has a structure is short
 text-short : (format : Format) (text : List ℕ) (m : Molecule) → HasMolecule format text m → length text ≤ 262144
@@ -32,21 +29,6 @@ text-short Molfile text m h = omega (arith, h.1.0)
 text-length : (kind id : ℕ) (format : LoggedFormat) (text : List ℕ)
     → length (kind ∷ (to_le_bytes w32 id ++ format_byte format ∷ text)) ≡ 6 + length text
 text-length kind id format text = omega (arith, length-append (to_le_bytes w32 id) (format_byte format ∷ text))
-
-pub payload-short : (c : Asked) → IsSoundChange c → IsShort (payload (change_of c))
-payload-short (asked.Register r) sound =
-    let x = arc_value r in omega (
-      arith,
-      text-length 1 x.id (logged_format x.format) x.text,
-      text-short x.format x.text x.mol sound.structure,
-    )
-payload-short (asked.Revise r) sound =
-    let x = arc_value r in omega (
-      arith,
-      text-length 2 x.id (logged_format x.format) x.text,
-      text-short x.format x.text x.mol sound.structure,
-    )
-payload-short (asked.Withdraw id) sound = omega arith
 
 pub valid-short : (c : Change) → IsValid c → IsShort (payload c)
 valid-short (Register id format text) v = omega (
@@ -61,19 +43,6 @@ valid-short (Revise id format text) v = omega (
 )
 valid-short (Withdraw id) v = omega arith
 
-pub payload-some : (c : Change) → 1 ≤ length (payload c)
-payload-some c = go (logged_change c)
-  where
-    go : (c : Logged) → 1 ≤ length (written c)
-    go (registered id format text) = omega arith
-    go (revised id format text) = omega arith
-    go (withdrawn id) = omega arith
-
-pub short-result : (c : Asked) (r : Result (Vec ℕ Global) AllocError) → IsSoundChange c
-    → IfOk r (λ v. v.items ≡ payload (change_of c)) → IfOk r (λ v. IsShort v.items)
-short-result c (Ok v) sound is = subst IsShort (sym is) (payload-short c sound)
-short-result c (Err e) sound is = tt
-
 -- a change of a log, told and logged again
 same-format : (f : LoggedFormat) → logged_format (stored_format f) ≡ f
 same-format logged.Smiles = refl
@@ -84,9 +53,27 @@ told-logged (registered id format text) = ap (λ f. registered id f text) (same-
 told-logged (revised id format text) = ap (λ f. revised id f text) (same-format format)
 told-logged (withdrawn id) = refl
 
-pub same-payloads : (cs : List Logged) → payloads (history_of cs) ≡ log_payloads cs
+pub same-payloads : (cs : List Logged) → map payload (map told cs) ≡ log_payloads cs
 same-payloads [] = refl
 same-payloads (c ∷ cs) = λ i. written (told-logged c i) ∷ same-payloads cs i
+
+-- and an entry of a base
+told-made : (version : ℕ) (state : EntryState) → made_at (told_state version state) ≡ version
+told-made version (entry.live format text) = refl
+told-made version entry.withdrawn = refl
+
+told-state : (version : ℕ) (state : EntryState) → logged_state (told_state version state) ≡ state
+told-state version (entry.live format text) = ap (λ f. entry.live f text) (same-format format)
+told-state version entry.withdrawn = refl
+
+told-entry : (e : Entry) → logged_entry (told_entry e) ≡ e
+told-entry e =
+    let made = told-made e.version e.state in
+    let state = told-state e.version e.state in λ i. record { id = e.id; version = made i; state = state i }
+
+pub same-bases : (es : List Entry) → map base_payload (map told_entry es) ≡ base_payloads es
+same-bases [] = refl
+same-bases (e ∷ es) = λ i. entry.written (told-entry e i) ∷ same-bases es i
 
 -- a text that is refused has no structure
 abbrev pub OneAnswer : Type 0
@@ -114,10 +101,10 @@ no-text one format text f refused other has =
       | inr rest ↦ elim rest [ inl e ↦ ok-err has.0 NoMemory e | inr e ↦ other (same-fault f NoMemory e) ]
     ]
 
-pub refused-text : {X : Type 0} → OneAnswer
-    → (c : Change) (format : Format) (text : List ℕ) (f : TextFault) (r : Result X TextFault) → IsErrAnd r (λ e. e ≡ f)
-    → IsAnswer format text (Err f) → (IsValid c → IsText format text)
-    → IfErr r (λ e. e ≢ NoMemory → ¬ IsValid c)
-refused-text one c format text f (Ok x) is refused has = tt
-refused-text one c format text f (Err e) is refused has =
+-- what needs the text's structure does not hold
+pub refused-text : {X : Type 0} → OneAnswer → (V : Type 0)
+    → (format : Format) (text : List ℕ) (f : TextFault) (r : Result X TextFault) → IsErrAnd r (λ e. e ≡ f)
+    → IsAnswer format text (Err f) → (V → IsText format text) → IfErr r (λ e. e ≢ NoMemory → ¬ V)
+refused-text one V format text f (Ok x) is refused has = tt
+refused-text one V format text f (Err e) is refused has =
     λ other valid. no-text one format text f refused (λ same. other (is ∙ same)) (has valid)

@@ -1,48 +1,76 @@
--- What the disk of a store has, at each state of the machine. For callers.
-use Rattle.std.specs.Prelude.{◌≡◌, ◌+◌, ◌*◌, ◌≤◌, false, true, List, None, Option, option_map, Some, ℕ}
+-- What the two disks of a store have, at each state of the machine. For callers.
+use Rattle.std.specs.Prelude.{◌≡◌, ◌+◌, ◌-◌, ◌*◌, ◌≤◌, length, MatchOption, None, option_map, take, true, ℕ}
 use Rattle.disk_edge.specs.Disk.{DiskModel, IfTold}
-use Rattle.journal_core.specs.Journal.{Doubts, Rests}
-use Rattle.journal_core.specs.Standing.{Standing}
+use Rattle.disk_pair.specs.Pairs.{History as Written, State as PairState}
+use Rattle.disk_pair.specs.Stands.{StandsFor as PairStandsFor}
+use Rattle.disk_pair.specs.Term.{Paired, disk_a, disk_b}
 use Rattle.journal_core.specs.declared.format.TheConstants.{LONGEST_PAYLOAD}
-use Rattle.journal_core.specs.Records.{header}
-use Rattle.store_core.specs.Stored.{IsAt, IsStore, StoreTerm as Memory}
-use Rattle.store_machine.specs.History.{of_commits}
-use Rattle.store_machine.specs.declared.machine.History.{History}
+use Rattle.store_core.specs.Stored.{IsStore, StandsFor as InMemory, StoreTerm as Memory, served}
+use Rattle.store_machine.specs.History.{rebase}
+use Rattle.store_machine.specs.Laws.{IsSound}
+use Rattle.store_machine.specs.Machine.{on_disk}
+use Rattle.store_machine.specs.declared.machine.Copying.{Copying}
 use Rattle.store_machine.specs.declared.machine.State.{State}
-use Rattle.store_disk.specs.Payloads.{payload, payloads}
+use Rattle.store_disk.specs.Payloads.{history_of, payload}
 
--- the store in memory, the journal, and the other disk
+-- the store in memory, and the two disks
 pub record StoreTerm (D : Type 0) : Type 0 where
   pub memory : Memory
-  pub journal : Standing D
-  pub b : D
+  pub pair : Paired D
 
--- The journal has these payloads, where its disk tells its content: each image opens to them. Where one more is in
--- doubt, each image opens to them or to them and this one, and some image with it.
-abbrev pub Has : {D : Type 0} → DiskModel D → Standing D → List (List ℕ) → Option (List ℕ) → Type 0
-Has model journal payloads None =
-    (journal.doubt ≡ false) × IfTold (model.content journal.disk) (λ _. Rests model journal header payloads)
-Has model journal payloads (Some p) =
-    (journal.doubt ≡ true) × IfTold (model.content journal.disk) (λ _. Doubts model journal header payloads p)
+-- A copy of which so many items are missing. Its items are the base records, and then the commits.
+abbrev pub lacking : ℕ → Written → Written
+lacking left whole = record whole {
+  base = take (length whole.base + length whole.commits - left) whole.base;
+  commits = take (length whole.commits - left) whole.commits;
+}
 
--- a history without a base is its commits
-abbrev pub IsPlain : History → Type 0
-IsPlain h = h ≡ of_commits h.commits
+-- the whole copy of a version, in the next generation
+abbrev pub whole_copy : State → ℕ → Written
+whole_copy s version = history_of (s.generation + 1) (rebase s.history version)
 
--- The store stands for a state: what is in memory is at it; the journal has the history, which has no base, all of it,
--- and the commit in doubt; the disk is in format 1, whose generation is 0; the counts of faults are those of the disks.
--- Whose the pins are is free.
+abbrev pub copy_so_far : State → Copying → Written
+copy_so_far s copy = lacking copy.left (whole_copy s copy.version)
+
+-- what two disks have at a state of the machine
+abbrev pub on_pair : State → PairState
+on_pair s = record {
+  now = history_of s.generation (on_disk s);
+  commit = option_map payload s.doubt;
+  finish = option_map (whole_copy s) s.finish;
+  copy = option_map (copy_so_far s) s.copy;
+}
+
+-- A copy lacks no more items than it has when it is whole.
+abbrev pub LacksNoMore : State → Copying → Type 0
+LacksNoMore s copy =
+    copy.left ≤ length (whole_copy s copy.version).base + length (whole_copy s copy.version).commits
+
+-- What is in memory serves a state, in which a copy may run, and a finish may be in doubt.
+pub record IsServing (memory : Memory) (s : State) : Type 0 where
+  pub sound : IsSound s
+  pub serves : s.serves ≡ true
+  pub stands : InMemory memory (served s)
+
+-- P where both disks tell their contents
+abbrev pub IfBothTold : {D : Type 0} → DiskModel D → Paired D → Type 0 → Type 0
+IfBothTold model pair P = IfTold (model.content (disk_a pair)) (λ _. IfTold (model.content (disk_b pair)) (λ _. P))
+
+-- The store stands for a state. What is in memory serves it. The current disk's header is that of the history from its
+-- base on. Where both disks tell their contents, they have this history, the commit and the finish in doubt, and the
+-- copy so far. The counts of faults are those of the disks. No call starts a copy yet, so none runs. Whose the pins are
+-- is free.
 pub record StandsFor {D : Type 0} (model : DiskModel D) (store : StoreTerm D) (s : State) : Type 0 where
-  pub memory : IsAt store.memory s
-  pub plain : IsPlain s.history
-  pub base : s.base ≡ s.history.version
-  pub generation : s.generation ≡ 0
-  pub journal : Has model store.journal (payloads s.history) (option_map payload s.doubt)
-  pub counts : s.faults ≡ record { a = model.faults store.journal.disk; b = model.faults store.b }
+  pub memory : IsServing store.memory s
+  pub header : store.pair.journal.header ≡ (on_pair s).now.header
+  pub pair : IfBothTold model store.pair (PairStandsFor model store.pair (on_pair s))
+  pub lacks : MatchOption s.copy (Unit {0}) (LacksNoMore s)
+  pub counts : s.faults ≡ record { a = model.faults (disk_a store.pair); b = model.faults (disk_b store.pair) }
+  pub copy : s.copy ≡ None
 
--- The journal may be appended to, at a place far below the end of places. For private clauses alone.
-pub record IsReady {D : Type 0} (memory : Memory) (journal : Standing D) : Type 0 where
+-- The current disk's journal is at a place far below the end of places. For private clauses alone.
+pub record IsReady {D : Type 0} (memory : Memory) (pair : Paired D) : Type 0 where
   pub stands : IsStore memory
-  pub ready : journal.ready ≡ true
   pub few : memory.version ≤ 16777215
-  pub place : journal.place ≤ 8 + (5 + LONGEST_PAYLOAD) * memory.version
+  pub bases : pair.journal.header.base_count ≤ 4294967295
+  pub place : pair.journal.place ≤ 20 + (5 + LONGEST_PAYLOAD) * (pair.journal.header.base_count + memory.version)

@@ -1,45 +1,82 @@
--- What replaying a log leaves, and where it stops. For private clauses alone.
-use Rattle.std.specs.Prelude.{◌≡◌, ◌++◌, ◌≤◌, length, List, [], ◌∷◌, ℕ}
+-- What a journal is made to in memory, and where that stops. For private clauses alone.
+use Rattle.std.specs.Prelude.{◌≡◌, ◌++◌, ◌≤◌, false, List, [], ◌∷◌, map, Some, ℕ}
+use Rattle.std.specs.List.{AllByRecursion}
+use Rattle.commit_log.specs.Base.{entries_of}
 use Rattle.commit_log.specs.Change.{Change as Logged, change_of}
+use Rattle.commit_log.specs.Entry.{Entry, entry_of}
 use Rattle.commit_log.specs.Log.{changes_of}
+use Rattle.commit_log.specs.declared.base.BaseEntry.{BaseEntry}
 use Rattle.commit_log.specs.declared.change.Commit.{Commit}
 use Rattle.disk_edge.specs.Disk.{DiskModel, IfTold}
+use Rattle.disk_pair.specs.Pairs.{OpensAs}
+use Rattle.journal_core.specs.Fronts.{BeginsAt, IsFront, IsHeader, IsPart, IsPeeked}
 use Rattle.journal_core.specs.Journal.{Reads, Rests}
 use Rattle.journal_core.specs.Standing.{Standing}
-use Rattle.journal_core.specs.Records.{header}
-use Rattle.store_core.specs.Stored.{IsAt, StoreTerm as Memory}
-use Rattle.store_machine.specs.History.{IsHistory}
+use Rattle.store_core.specs.Based.{based}
+use Rattle.store_core.specs.Stored.{IsAt, StandsFor as InMemory, StoreTerm as Memory}
+use Rattle.store_machine.specs.History.{HasText, IsHistory, head}
 use Rattle.store_machine.specs.Openings.{IsOpened}
+use Rattle.store_machine.specs.declared.machine.History.{History}
 use Rattle.store_machine.specs.declared.machine.State.{State}
-use Rattle.store_disk.specs.Loads.{MayFollow, OpensTo}
-use Rattle.store_disk.specs.OnDisk.{IsPlain}
-use Rattle.store_disk.specs.Payloads.{history_of, payloads, told}
+use Rattle.store_disk.specs.Loads.{MayFollow}
+use Rattle.store_disk.specs.Payloads.{base_payload, history_of, payloads, told, told_entry, told_history}
+
+-- A journal that was just opened, at its first base record, or where it has none, at its first commit.
+pub record IsOpening {D : Type 0} (model : DiskModel D) (journal : Standing D) : Type 0 where
+  pub range : IsHeader journal.header
+  pub start : BeginsAt journal.header journal.place
+  pub left : journal.left ≡ journal.header.base_count
+  pub settled : journal.doubt ≡ false
+  pub reads : IfTold (model.content journal.disk) (λ l. (front : List ℕ) × IsPart journal.header [] front
+      × Reads model journal front [] × IsPeeked (Some journal.header) l)
+
+-- the store in memory stands for a base of this version alone, which has these entries
+abbrev pub HasBased : Memory → ℕ → List Entry → Type 0
+HasBased memory version entries = InMemory memory (based version (map told_entry entries))
+
+-- a base stops at the first entry whose text has no structure
+pub record LacksText (found : List (ℕ × BaseEntry)) (at : ℕ) : Type 0 where
+  pub before : List (ℕ × BaseEntry)
+  pub one : ℕ × BaseEntry
+  pub more : List (ℕ × BaseEntry)
+  pub is : found ≡ before ++ one ∷ more
+  pub place : at ≡ one.0
+  pub sound : AllByRecursion (λ e. HasText (told_entry e).1) (entries_of before)
+  pub none : ¬ HasText (told_entry (entry_of one.1)).1
 
 -- the store in memory stands for a state of this history that was just opened
-pub record IsReplayed (memory : Memory) (commits : ℕ) (changes : List Logged) : Type 0 where
-  pub state : State
-  pub at : IsAt memory state
-  pub history : state.history ≡ history_of changes
-  pub opened : IsOpened commits state
+pub record IsReplayed (memory : Memory) (commits version : ℕ) (entries : List Entry) (changes : List Logged) : Type 0
+  where
+    pub state : State
+    pub at : IsAt memory state
+    pub history : state.history ≡ told_history version entries changes
+    pub opened : IsOpened commits state
 
--- it stops at the first commit that may not follow those before it
-pub record Stops (log : List Commit) (at : ℕ) : Type 0 where
+-- a log stops at the first commit that may not follow the base and those before it
+pub record Stops (version : ℕ) (entries : List Entry) (log : List Commit) (at : ℕ) : Type 0 where
   pub before : List Commit
   pub commit : Commit
   pub more : List Commit
   pub is : log ≡ before ++ commit ∷ more
   pub place : at ≡ commit.at
-  pub history : IsHistory (history_of (changes_of before))
-  pub few : length (changes_of before) ≤ 16777215
-  pub refused : ¬ MayFollow (history_of (changes_of before)) (told (change_of commit.wire))
+  pub history : IsHistory (told_history version entries (changes_of before))
+  pub few : head (told_history version entries (changes_of before)) ≤ 16777215
+  pub refused : ¬ MayFollow (told_history version entries (changes_of before)) (told (change_of commit.wire))
 
--- What a loading makes of a journal: the store in memory stands for a state that was just opened, and where the journal
--- has read nothing yet of a disk that tells its content, this has the state's history.
+-- The journal rests behind the payloads of a history.
+pub record RestsAs {D : Type 0} (model : DiskModel D) (journal : Standing D) (generation : ℕ) (h : History) : Type 0
+  where
+    pub front : List ℕ
+    pub is : IsFront (history_of generation h).header (map base_payload h.base) front
+    pub rests : Rests model journal front (payloads h)
+
+-- What a loading makes of a journal that was just opened: the store in memory stands for a state that was just opened,
+-- and where the disk tells its content, this has the state's history.
 pub record IsLoaded {D : Type 0} (model : DiskModel D) (memory : Memory) (commits : ℕ) (old new : Standing D)
     : Type 0 where
   pub state : State
   pub at : IsAt memory state
-  pub plain : IsPlain state.history
   pub opened : IsOpened commits state
-  pub opens : Reads model old header [] → IfTold (model.content old.disk) (OpensTo state.history)
-  pub rests : Reads model old header [] → Rests model new header (payloads state.history)
+  pub header : old.header ≡ (history_of old.header.generation state.history).header
+  pub opens : IfTold (model.content old.disk) (OpensAs (history_of old.header.generation state.history))
+  pub rests : IfTold (model.content old.disk) (λ _. RestsAs model new old.header.generation state.history)

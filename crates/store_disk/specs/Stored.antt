@@ -1,38 +1,43 @@
--- Stretches of a store on a disk: those of its callers' steps alone, and what a crash at any moment of them leaves. For
--- callers.
+-- Stretches of a store on two disks: those of its callers' steps alone, and what a crash at any moment of them leaves.
+-- For callers.
 use Rattle.std.specs.Prelude.{◌≡◌, ◌⊎◌, ◌++◌, ◌≤◌, List, [], ◌∷◌, None, Option, refl, Some, true, ℕ}
 use Rattle.std.proofs.Common.{◌∙◌, arith, subst, sym}
 use Rattle.std.specs.List.{AllByRecursion}
-use Rattle.disk_edge.specs.Disk.{DiskModel, IfTold, Keeps}
+use Rattle.disk_edge.specs.Disk.{DiskModel, Keeps}
+use Rattle.disk_pair.specs.Term.{Paired, disk_a, disk_b}
 use Rattle.store_machine.proofs.Joins.{calms-join, runs-join}
 use Rattle.store_machine.specs.History.{grown}
-use Rattle.store_machine.specs.Machine.{IsDiskFault, MayAdd, Rose}
+use Rattle.store_machine.specs.Machine.{MayAdd, Recovers, on_disk}
 use Rattle.store_machine.specs.Runs.{IsCalm, IsRun}
 use Rattle.store_machine.specs.declared.machine.Change.{Change}
 use Rattle.store_machine.specs.declared.machine.Event.{Event}
-use Rattle.store_machine.specs.declared.machine.Event.TheVariants.{Commit}
+use Rattle.store_machine.specs.declared.machine.Event.TheVariants.{Commit, Compact}
 use Rattle.store_machine.specs.declared.machine.History.{History}
 use Rattle.store_machine.specs.declared.machine.State.{State}
 use Rattle.store_machine.specs.declared.machine.Step.{Step}
 use Rattle.store_machine.specs.declared.machine.Times.{Times}
-use Rattle.store_disk.specs.Loads.{MayLeave, OpensTo}
-use Rattle.store_disk.specs.OnDisk.{StandsFor, StoreTerm}
+use Rattle.store_disk.specs.Loads.{OpensTo}
+use Rattle.store_disk.specs.OnDisk.{IfBothTold, StandsFor, StoreTerm}
 
-abbrev pub IsCommit : Event → Type 0
-IsCommit (Commit c) = Unit {0}
-IsCommit _ = ⊥
+-- the calls that may call a disk
+abbrev pub CallsDisks : Event → Type 0
+CallsDisks (Commit c) = Unit {0}
+CallsDisks Compact = Unit {0}
+CallsDisks _ = ⊥
 
--- A crash at a moment of a step shows the history from before it, or this and the commit in doubt, or this and the
--- commit that the step asks for, where it may be added.
-abbrev pub MayShow : Step → History → Type 0
-MayShow x h = MayLeave x.before h
-    ⊎ ((c : Change) × (x.event ≡ Commit c) × MayAdd x.before c × (h ≡ grown x.before.history (c ∷ [])))
+-- A crash at a moment of a step shows what the machine may recover from before it, or the history with the commit that
+-- the step asks for, where it may be added.
+abbrev pub MayShow : Step → History → ℕ → Type 0
+MayShow x h generation = Recovers x.before h generation
+    ⊎ ((c : Change) × (x.event ≡ Commit c) × MayAdd x.before c × (h ≡ grown (on_disk x.before) (c ∷ []))
+    × (generation ≡ x.before.generation))
 
-abbrev pub Shows : Step → List ℕ → Type 0
-Shows x image = (h : History) × OpensTo h image × MayShow x h
+-- two images open to that
+abbrev pub Shows : Step → List ℕ → List ℕ → Type 0
+Shows x p q = (h : History) × (generation : ℕ) × MayShow x h generation × OpensTo h generation p q
 
 abbrev pub times : {D : Type 0} → DiskModel D → StoreTerm D → Times
-times model store = record { a = model.clock store.journal.disk; b = model.clock store.b }
+times model store = record { a = model.clock (disk_a store.pair); b = model.clock (disk_b store.pair) }
 
 -- the steps lie one after the other on the disks' clocks, which never fall
 abbrev pub AreClocked : Times → List Step → Times → Type 0
@@ -40,16 +45,15 @@ AreClocked begin [] end = end ≡ begin
 AreClocked begin (x ∷ xs) end =
     (x.begin ≡ begin) × (x.begin.a ≤ x.end.a) × (x.begin.b ≤ x.end.b) × AreClocked x.end xs end
 
--- each image of disk `a` that was possible at some moment of the step, which is over
-abbrev pub IsTimed : {D : Type 0} → DiskModel D → D → Step → Type 0
-IsTimed model disk x =
-    (x.end.a ≤ model.clock disk)
-    × ((image : List ℕ) → model.images_between disk x.begin.a x.end.a image → Shows x image)
+-- each image of disk `a` that was possible at some moment of the step, which is over, beside each of disk `b`
+abbrev pub IsTimed : {D : Type 0} → DiskModel D → Paired D → Step → Type 0
+IsTimed model pair x = (x.end.a ≤ model.clock (disk_a pair)) × (x.end.b ≤ model.clock (disk_b pair))
+    × ((p q : List ℕ) → model.images_between (disk_a pair) x.begin.a x.end.a p
+    → model.images_between (disk_b pair) x.begin.b x.end.b q → Shows x p q)
 
--- only a commit calls a disk, and it answers that one failed only where disk `a` counted a fault
-pub record IsCaused (x : Step) : Type 0 where
-  pub fault : IsDiskFault x.reply → Rose x.before.faults.a x.after.faults.a
-  pub quiet : IsCommit x.event ⊎ (x.end ≡ x.begin)
+-- only a commit and a copy take time on the disks
+abbrev pub IsCaused : Step → Type 0
+IsCaused x = CallsDisks x.event ⊎ (x.end ≡ x.begin)
 
 pub record Stretches {D : Type 0} (model : DiskModel D) (old new : StoreTerm D) (s : State) (steps : List Step)
     (t : State) : Type 0 where
@@ -58,13 +62,14 @@ pub record Stretches {D : Type 0} (model : DiskModel D) (old new : StoreTerm D) 
   pub run : IsRun s steps t
   pub calm : IsCalm steps
   pub clocked : AreClocked (times model old) steps (times model new)
-  pub moments : IfTold (model.content new.journal.disk) (λ _. AllByRecursion (IsTimed model new.journal.disk) steps)
+  pub moments : IfBothTold model new.pair (AllByRecursion (IsTimed model new.pair) steps)
   pub causes : AllByRecursion IsCaused steps
-  -- where nothing is committed the journal and its disk are as before
-  pub untouched : AllByRecursion (λ x. ¬ IsCommit x.event) steps → new.journal ≡ old.journal
-  pub past : Keeps model old.journal.disk new.journal.disk
-  pub untold : model.content old.journal.disk ≡ None → model.content new.journal.disk ≡ None
-  pub other : new.b ≡ old.b
+  -- where nothing is committed or copied both disks are as before
+  pub untouched : AllByRecursion (λ x. ¬ CallsDisks x.event) steps → new.pair ≡ old.pair
+  pub past_a : Keeps model (disk_a old.pair) (disk_a new.pair)
+  pub past_b : Keeps model (disk_b old.pair) (disk_b new.pair)
+  pub untold_a : model.content (disk_a old.pair) ≡ None → model.content (disk_a new.pair) ≡ None
+  pub untold_b : model.content (disk_b old.pair) ≡ None → model.content (disk_b new.pair) ≡ None
 
 clocked-joins : (xs ys : List Step) (a b c : Times) → AreClocked a xs b → AreClocked b ys c → AreClocked a (xs ++ ys) c
 clocked-joins [] ys a b c e r = subst (λ k. AreClocked k ys c) e r
@@ -100,12 +105,13 @@ keeps-twice model a b c p q = record {
   no_fewer = λ t u image le i. q.no_fewer t u image (omega (arith, le, p.later)) (p.no_fewer t u image le i);
 }
 
-module _ {D : Type 0} (model : DiskModel D) (mid new : D) (later : Keeps model mid new) where
+module _ {D : Type 0} (model : DiskModel D) (mid new : Paired D) (later_a : Keeps model (disk_a mid) (disk_a new))
+    (later_b : Keeps model (disk_b mid) (disk_b new)) where
   still-timed : (x : Step) → IsTimed model mid x → IsTimed model new x
   still-timed x t = (
-    omega (arith, t.0, later.later),
-    λ image b. t.1 image
-        (later.no_more x.begin.a x.end.a image t.0 b),
+    omega (arith, t.0, later_a.later),
+    omega (arith, t.1, later_b.later),
+    λ p q m n. t.2 p q (later_a.no_more x.begin.a x.end.a p t.0 m) (later_b.no_more x.begin.b x.end.b q t.1 n),
   )
 
   timed-joins : (xs ys : List Step) → AllByRecursion (IsTimed model mid) xs
@@ -121,12 +127,13 @@ module _ {D : Type 0} (model : DiskModel D) where
     run = refl;
     calm = tt;
     clocked = refl;
-    moments = λ l is. tt;
+    moments = λ l is m it. tt;
     causes = tt;
     untouched = λ none. refl;
-    past = keeps-itself model a.journal.disk;
-    untold = λ e. e;
-    other = refl;
+    past_a = keeps-itself model (disk_a a.pair);
+    past_b = keeps-itself model (disk_b a.pair);
+    untold_a = λ e. e;
+    untold_b = λ e. e;
   }
 
   pub joins : (a b c : StoreTerm D) (s t u : State) (xs ys : List Step)
@@ -137,15 +144,17 @@ module _ {D : Type 0} (model : DiskModel D) where
     run = runs-join xs ys s t u r.run q.run;
     calm = calms-join xs ys r.calm q.calm;
     clocked = clocked-joins xs ys (times model a) (times model b) (times model c) r.clocked q.clocked;
-    moments = λ l is.
-        let k = told-before (model.content b.journal.disk) (model.content c.journal.disk) q.untold l is in
-        timed-joins model b.journal.disk c.journal.disk q.past xs ys (r.moments k.0 k.1) (q.moments l is);
+    moments = λ l is m it.
+        let k = told-before (model.content (disk_a b.pair)) (model.content (disk_a c.pair)) q.untold_a l is in
+        let n = told-before (model.content (disk_b b.pair)) (model.content (disk_b c.pair)) q.untold_b m it in
+        timed-joins model b.pair c.pair q.past_a q.past_b xs ys (r.moments k.0 k.1 n.0 n.1) (q.moments l is m it);
     causes = all-joins IsCaused xs ys r.causes q.causes;
     untouched = λ none.
-        let parts = all-parts (λ x. ¬ IsCommit x.event) xs ys none in q.untouched parts.1 ∙ r.untouched parts.0;
-    past = keeps-twice model a.journal.disk b.journal.disk c.journal.disk r.past q.past;
-    untold = λ e. q.untold (r.untold e);
-    other = q.other ∙ r.other;
+        let parts = all-parts (λ x. ¬ CallsDisks x.event) xs ys none in q.untouched parts.1 ∙ r.untouched parts.0;
+    past_a = keeps-twice model (disk_a a.pair) (disk_a b.pair) (disk_a c.pair) r.past_a q.past_a;
+    past_b = keeps-twice model (disk_b a.pair) (disk_b b.pair) (disk_b c.pair) r.past_b q.past_b;
+    untold_a = λ e. q.untold_a (r.untold_a e);
+    untold_b = λ e. q.untold_b (r.untold_b e);
   }
 
   pub lands : (a b : StoreTerm D) (s t : State) (xs : List Step)

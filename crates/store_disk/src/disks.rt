@@ -1,6 +1,6 @@
 //! The disks of a store.
 
-/// Disk `a` has the journal. Disk `b` is kept beside it, and not called.
+/// One of them is read, and commits are appended to it.
 #[derive(Drop)]
 pub struct Disks<D> {
     pub a: D,

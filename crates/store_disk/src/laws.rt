@@ -1,114 +1,81 @@
-//! What the bytes of a disk open to, as laws of any bytes and of any store, and the law on which the store's proofs
+//! What the bytes of two disks open to, as laws of any bytes and of any store, and the laws on which the store's proofs
 //! stand.
 ghost use Rattle.std.specs.Prelude.{◌≡◌, ◌≤◌, ◌<◌, ◌+◌, ◌-◌, ◌++◌, [], ◌∷◌, List, length, None, slice_index_or, Some, ℕ};
 ghost use Rattle.std.specs.FinMap.{entries};
-ghost use Rattle.disk_edge.specs.Disk.{IfTold};
 ghost use Rattle.disk_pair.specs.Gives.{empty_copy};
-ghost use Rattle.disk_pair.specs.Pairs.{History as Written, MayShow, with_base, with_commit};
+ghost use Rattle.disk_pair.specs.Pairs.{History as Written, MayShow, PairOpensTo, State as PairState, with_base, with_commit};
+ghost use Rattle.disk_pair.specs.Stands.{StandsFor as PairStandsFor};
 ghost use Rattle.disk_pair.specs.Term.{OfEachPair, next_header};
 ghost use Rattle.journal_core.specs.Fronts.{IsFront, IsOpen};
-ghost use Rattle.journal_core.specs.Records.{IsNoJournal, header, prefix, text};
+ghost use Rattle.journal_core.specs.Records.{prefix};
 ghost use Rattle.journal_core.specs.declared.format.TheConstants.{CLOSED};
-ghost use Rattle.store_core.specs.Stored.{StoreTerm as Memory};
 ghost use Rattle.store_machine.specs.History.{IsHistory, head};
 ghost use Rattle.store_machine.specs.Laws.{IsSound, RunsStaySound};
 ghost use Rattle.store_machine.specs.Machine.{Recovers, committed, copying, now, replaced};
 ghost use Rattle.store_machine.specs.Owners.{SameButOwners};
+ghost use Rattle.store_machine.specs.Rebases.{RebasesGrow, RebasesKeepHeads};
 ghost use Rattle.store_machine.specs.declared.machine.Change.{Change};
 ghost use Rattle.store_machine.specs.declared.machine.History.{History};
 ghost use Rattle.store_machine.specs.declared.machine.State.{State};
-ghost use Rattle.store_disk.specs.Loads.{Damages, MayLeave, OpensAfter, OpensTo};
-ghost use Rattle.store_disk.specs.OnDisk.{IsPlain, StandsFor, StoreTerm};
-ghost use Rattle.store_disk.specs.Payloads.{payload, payloads};
-ghost use Rattle.store_disk.specs.TwoDisks.{PairOpensAfter, PairOpensTo, StandsForPair, history_of, lacking, on_pair, whole_copy};
+ghost use Rattle.store_disk.specs.Loads.{Damages, OpensAfter, OpensTo};
+ghost use Rattle.store_disk.specs.OnDisk.{StandsFor, StoreTerm, lacking, on_pair, whole_copy};
+ghost use Rattle.store_disk.specs.Payloads.{history_of, payload, payloads};
 
+use crate::store::Store;
 use commit_log::{a_base_reads_one_way, a_log_reads_one_way};
 use disk_edge::Disk;
 use disk_pair::{Pair, a_crash_leaves_one, a_pair_opens_one_way};
-use journal_core::{a_text_opens, bytes_open_one_way};
 use store_machine::{rebases_keep, runs_stay_sound};
 
-/// Bytes open to one history, or are damaged at one place, or are no store, and never two of these.
+/// Two disks open to one history, in one generation, or are damaged at one place, or neither is open, and never two of
+/// these.
 pub fn a_store_opens_one_way()
-    ensures one_history { (h k : History) (bytes : List ℕ) → OpensTo h bytes → OpensTo k bytes → h ≡ k }
-    ensures one_place { (a b : ℕ) (bytes : List ℕ) → Damages a bytes → Damages b bytes → a ≡ b }
-    ensures not_both { (h : History) (at : ℕ) (bytes : List ℕ)
-        → OpensTo h bytes → Damages at bytes → ⊥ }
-    ensures header { (h : History) (bytes : List ℕ) → OpensTo h bytes → ¬ IsNoJournal bytes }
-    ensures damaged_header { (at : ℕ) (bytes : List ℕ) → Damages at bytes → ¬ IsNoJournal bytes }
-{
-    a_log_reads_one_way();
-    bytes_open_one_way();
-}
-
-/// A store that was written opens to its history, which has no base, whatever follows.
-pub fn what_was_written_opens()
-    ensures { (h : History) (rest : List ℕ) → IsHistory h → length h.commits ≤ 16777215
-        → IsPlain h → OpensTo h (text header (payloads h) ++ rest) }
-{
-    a_text_opens();
-}
-
-/// What a crash now leaves of a store's disk opens to the store's history, or to this and the commit in doubt.
-pub fn a_standing_store_opens<D: Disk>()
-    ensures { (store : StoreTerm D) (s : State) → StandsFor D.model store s
-        → IfTold (D.model.content store.journal.disk) (λ _. (image : List ℕ)
-        → D.model.images store.journal.disk image → OpensAfter s image) }
-{
-    runs_stay_sound();
-}
-
-/// What is left of a store's state is what the machine may recover: the disk has the whole history.
-pub fn what_is_left_is_recovered<D: Disk>()
-    ensures { (store : StoreTerm D) (s : State) → StandsFor D.model store s
-        → (h : History) → MayLeave s h → Recovers s h s.generation }
-{
-    rebases_keep();
-}
-
-/// What two disks may show of a state after a crash is what the machine may recover.
-pub fn what_two_disks_show_is_recovered()
-    ensures { (s : State) (x : Written) → MayShow (on_pair s) x → (h : History) × (generation : ℕ)
-        × Recovers s h generation × (x ≡ history_of generation h) }
-{}
-
-/// Each two images that a crash now may leave of a store's two disks open to what the machine may recover.
-pub fn a_standing_pair_opens<D: Disk>(pair: &Pair<D>)
-    ensures { (memory : Memory) (s : State)
-        → StandsForPair D.model (record { memory = memory; pair = pair.now }) s
-        → OfEachPair D.model pair.now (PairOpensAfter s) }
-{
-    rebases_keep();
-    runs_stay_sound();
-    a_crash_leaves_one(pair);
-}
-
-/// Two disks open to one history, in one generation.
-pub fn two_disks_open_one_way()
-    ensures { (h k : History) (g j : ℕ) (a b : List ℕ) → PairOpensTo h g a b → PairOpensTo k j a b
-        → (h ≡ k) × (g ≡ j) }
+    ensures one_history { (h k : History) (g j : ℕ) (a b : List ℕ) → OpensTo h g a b
+        → OpensTo k j a b → (h ≡ k) × (g ≡ j) }
+    ensures one_place { (at place : ℕ) (a b : List ℕ) → Damages at a b → Damages place a b
+        → at ≡ place }
+    ensures not_both { (h : History) (g at : ℕ) (a b : List ℕ)
+        → OpensTo h g a b → Damages at a b → ⊥ }
+    ensures opens { (h : History) (g : ℕ) (a b : List ℕ) → OpensTo h g a b
+        → ¬ IsOpen a → ¬ IsOpen b → ⊥ }
+    ensures damaged { (at : ℕ) (a b : List ℕ) → Damages at a b → ¬ IsOpen a → ¬ IsOpen b → ⊥ }
 {
     a_log_reads_one_way();
     a_base_reads_one_way();
     a_pair_opens_one_way();
 }
 
-/// A history that was written on one of two disks is what they open to where the other one is not open.
-pub fn what_was_written_on_one_of_two_opens()
+/// A history that was written on one of two disks, behind which any bytes may stand, is what they open to where the
+/// other one is not open.
+pub fn what_was_written_opens()
     ensures first { (h : History) (generation : ℕ) (front rest b : List ℕ) → IsHistory h
         → head h ≤ 16777215
         → IsFront (history_of generation h).header (history_of generation h).base front → ¬ IsOpen b
-        → PairOpensTo h generation (prefix front (payloads h) ++ CLOSED ∷ rest) b }
+        → OpensTo h generation (prefix front (payloads h) ++ CLOSED ∷ rest) b }
     ensures second { (h : History) (generation : ℕ) (front rest a : List ℕ) → IsHistory h
         → head h ≤ 16777215
         → IsFront (history_of generation h).header (history_of generation h).base front → ¬ IsOpen a
-        → PairOpensTo h generation a (prefix front (payloads h) ++ CLOSED ∷ rest) }
+        → OpensTo h generation a (prefix front (payloads h) ++ CLOSED ∷ rest) }
 {
     a_pair_opens_one_way();
 }
 
+/// Each two images that a crash now may leave of a store's two disks open to what the machine may recover.
+pub fn a_standing_store_opens<D: Disk>(store: &Store<D>)
+    ensures { (s : State) → StandsFor D.model store.now s
+        → OfEachPair D.model store.now.pair (OpensAfter s) }
+{
+    laws(&store.pair);
+}
+
+/// What two disks may show of a state after a crash is what the machine may recover.
+pub fn what_is_left_is_recovered()
+    ensures { (s : State) (x : Written) → MayShow (on_pair s) x → (h : History) × (generation : ℕ)
+        × Recovers s h generation × (x ≡ history_of generation h) }
+{}
+
 /// What two disks have at the states that a commit, the start of a copy and its finish leave.
-pub fn what_two_disks_have_after()
+pub fn what_disks_have_after()
     ensures committed { (s : State) (c : Change) → IsSound s
         → on_pair (committed s c) ≡ record (on_pair s) {
           now = with_commit (on_pair s).now (payload c);
@@ -153,11 +120,18 @@ pub fn stores_ask_no_owner<D: Disk>()
         → StandsFor D.model store t }
 {
     store_core::stores_ask_no_owner();
+    store_machine::owners_are_free();
 }
 
-/// It takes no time.
-pub(crate) fn laws()
-    ensures { RunsStaySound }
+/// They take no time.
+pub(crate) fn laws<D: Disk>(pair: &Pair<D>)
+    ensures sound { RunsStaySound }
+    ensures heads { RebasesKeepHeads }
+    ensures grown { RebasesGrow }
+    ensures leaves { (s : PairState) → PairStandsFor D.model pair.now s
+        → OfEachPair D.model pair.now (PairOpensTo (MayShow s)) }
 {
+    rebases_keep();
     runs_stay_sound();
+    a_crash_leaves_one(pair);
 }

@@ -1,15 +1,14 @@
-//! A store of structures on a disk: the store in memory of `store_core`, and a journal that has each commit before it
-//! is acknowledged.
+//! A store of structures on two disks: the store in memory of `store_core`, and on the disk that is read a journal that
+//! has each commit before it is acknowledged.
 //!
-//! `Store::load` reads the commits of a disk, and `Store` is then a `Service`: each call is a step of the machine. At
-//! each state the disk has the history, and the commit in doubt, if any. So a crash leaves every commit that was
+//! `Store::load` reads one of two disks, and `Store` is then a `Service`: each call is a step of the machine. At each
+//! state the disks have the history, and the commit in doubt, if any. So a crash leaves every commit that was
 //! acknowledged, and at most one more: the one in doubt, or the one that is being made.
 #![tactic(auto)]
 
 mod disks;
 mod laws;
 mod payload;
-mod put;
 mod replay;
 mod store;
 #[cfg(test)]
@@ -17,9 +16,7 @@ mod tests;
 
 pub use disks::Disks;
 pub use laws::{
-    a_standing_pair_opens, a_standing_store_opens, a_store_opens_one_way, copies_go_on,
-    stores_ask_no_owner, two_disks_open_one_way, what_is_left_is_recovered,
-    what_two_disks_have_after, what_two_disks_show_is_recovered,
-    what_was_written_on_one_of_two_opens, what_was_written_opens,
+    a_standing_store_opens, a_store_opens_one_way, copies_go_on, stores_ask_no_owner,
+    what_disks_have_after, what_is_left_is_recovered, what_was_written_opens,
 };
 pub use store::Store;

@@ -1,18 +1,22 @@
-//! Changes as payloads of the journal, and back.
+//! Changes as payloads of the journal, and back; and the entries of a base, as they are read.
 
-ghost use Rattle.std.specs.Prelude.{◌≡◌, ◌≢◌, IfErr, IfOk};
+ghost use Rattle.std.specs.Prelude.{◌≡◌, ◌≢◌, IfErr, IfOk, IfSome};
+ghost use Rattle.std.specs.Arc.{arc_value};
 ghost use Rattle.commit_log.specs.Change.{IsInRange};
 ghost use Rattle.commit_log.specs.Change as logged;
+ghost use Rattle.commit_log.specs.Entry.{entry_of};
 ghost use Rattle.journal_core.specs.Records.{IsShort};
 ghost use Rattle.mol_finish.specs.declared.fault.TextFault.TheVariants.{NoMemory};
+ghost use Rattle.store_core.specs.Kept.{status_in};
 ghost use Rattle.store_core.specs.Replies.{change_of};
-ghost use Rattle.store_machine.specs.History.{IsValid};
-ghost use Rattle.store_disk.specs.Payloads.{logged_format, payload, stored_format, told};
+ghost use Rattle.store_machine.specs.History.{HasText, IsId, IsValid};
+ghost use Rattle.store_disk.specs.Payloads.{logged_format, payload, stored_format, told, told_entry};
 
-use commit_log::{Wire, encode_register, encode_revise, encode_withdraw};
+use commit_log::{BaseEntry, BaseState, Wire, encode_register, encode_revise, encode_withdraw};
 use mol_finish::{Format, TextFault};
 use std::alloc::{AllocError, Global};
-use store_core::{Change, Recorder};
+use std::sync::Arc;
+use store_core::{Change, Record, Recorder};
 
 /// The payload of a change. A record's text is short.
 pub(crate) fn payload_of(alloc: Global, change: &Change) -> Result<Vec<u8>, AllocError>
@@ -58,6 +62,29 @@ pub(crate) fn change_from(recorder: &mut Recorder, wire: &Wire) -> Result<Change
             Ok(Change::Revise(record))
         }
         Wire::Withdraw { id } => Ok(Change::Withdraw(*id)),
+    }
+}
+
+/// The record of a base's entry, with the structure of its text, and none where the identifier was withdrawn. It is
+/// refused as the text is.
+pub(crate) fn record_from(
+    recorder: &mut Recorder,
+    entry: &BaseEntry,
+) -> Result<Option<Arc<Record>>, TextFault>
+    requires { IsId entry.now.id }
+    ensures status { IfOk result (λ r. status_in entry.now.version r
+        ≡ (told_entry (entry_of entry.now)).1) }
+    ensures own { IfOk result (λ r. IfSome r (λ own. (arc_value own).id ≡ entry.now.id)) }
+    ensures fault { IfErr result (λ fault. fault ≢ NoMemory
+        → ¬ HasText (told_entry (entry_of entry.now)).1) }
+{
+    mol_finish::one_answer();
+    match &entry.state {
+        BaseState::Live { format, text } => {
+            let record = recorder.record(entry.id, stored_format(*format), text)?;
+            Ok(Some(record))
+        }
+        BaseState::Withdrawn => Ok(None),
     }
 }
 

@@ -1,13 +1,18 @@
-//! A store on a disk. For a commit the memory is taken first; then it is put into the journal, and only where that takes
-//! it, made in memory. No other call touches the disk (`Stretches`, fields `causes` and `untouched`).
+//! A store on two disks. For a commit the memory is taken first; then it is put into the journal of the disk that is
+//! read, and only where that takes it, made in memory. No other call touches a disk (`Stretches`, fields `causes` and
+//! `untouched`).
 
-ghost use Rattle.std.specs.Prelude.{◌≡◌, ◌≤◌, [], All, false, IfErr, IfOk, IsErrOf, length, OnErr, Some, true, ℕ};
-ghost use Rattle.disk_edge.specs.Disk.{IfTold, Rose, Faulted};
+ghost use Rattle.std.specs.Prelude.{◌≡◌, ◌≤◌, ◌+◌, ◌*◌, ◌⊎◌, [], All, false, IfErr, IfOk, IsErrOf, length, OnErr, OnOk, Some, true, ℕ};
+ghost use Rattle.std.specs.Arc.{arc_value};
+ghost use Rattle.disk_edge.specs.Disk.{Faulted, IfTold, Rose};
 ghost use Rattle.disk_edge.specs.Failures.{bound_of};
+ghost use Rattle.disk_pair.specs.Changed.{changed};
+ghost use Rattle.disk_pair.specs.Term.{disk_a, disk_b, first_of};
+ghost use Rattle.disk_pair.specs.declared.choice.Which.TheVariants.{First};
 ghost use Rattle.journal_core.specs.Answers.{OnDamaged};
-ghost use Rattle.journal_core.specs.Journal.{Reads};
+ghost use Rattle.journal_core.specs.Fronts.{IsOpen};
 ghost use Rattle.journal_core.specs.Looks.{Looks, Narrows};
-ghost use Rattle.journal_core.specs.Records.{IsNoJournal, header};
+ghost use Rattle.journal_core.specs.declared.format.TheConstants.{LONGEST_PAYLOAD};
 ghost use Rattle.store_core.specs.Calls.{Calls, NotRaised, SameHeld, WornAs, is_worn};
 ghost use Rattle.store_core.specs.Records.{Shared};
 ghost use Rattle.store_core.specs.Replies.{fetch_calls};
@@ -17,21 +22,21 @@ ghost use Rattle.store_core.specs.declared.page.TheConstants.{MOST_RECORDS};
 ghost use Rattle.store_machine.specs.History.{IsId, begun, head};
 ghost use Rattle.store_machine.specs.Openings.{IsOpened};
 ghost use Rattle.store_machine.specs.declared.machine.State.{State};
-ghost use Rattle.store_disk.specs.OnDisk.{IsReady, StandsFor};
-ghost use Rattle.store_disk.specs.Stored.{Stretches};
-ghost use Rattle.std.specs.Arc.{arc_value};
-ghost use Rattle.store_disk.specs.Loads.{Damages, OpensTo, a_after, b_after};
-ghost use Rattle.store_disk.specs.Replays.{IsLoaded};
 ghost use Rattle.store_disk.specs.InMemory.{StandsInMemory};
+ghost use Rattle.store_disk.specs.Loads.{Damages, DamagesDisk, OpensTo, a_after, b_after};
+ghost use Rattle.store_disk.specs.OnDisk.{StandsFor};
+ghost use Rattle.store_disk.specs.Faults.{commit_fault};
+ghost use Rattle.store_disk.specs.Replays.{IsLoaded, IsOpening};
+ghost use Rattle.store_disk.specs.Stored.{Stretches};
 
 use crate::disks::Disks;
 use crate::laws::laws;
 use crate::payload::payload_of;
-use crate::put::put;
 use crate::replay::replay;
 use chem_core::Print;
-use commit_log::read_all;
+use commit_log::{read_all, read_base};
 use disk_edge::{Disk, MemDisk};
+use disk_pair::{Pair, Picked, PutFault, Which, a_pair_opens_one_way};
 use journal_core::{Journal, LoadFault};
 use snap_registry::Pin;
 use std::alloc::{AllocError, Global};
@@ -41,18 +46,18 @@ use store_core::{
     CallFault, Change, CommitFault, Look, MOST_COMMITS, Page, Service, Stats, Steps,
     Store as Memory,
 };
+use store_machine::rebases_keep;
 
-// Where the records begin in format 1.
-const FIRST_RECORD: u64 = 8;
+// Where the version of the base stands in format 2.
+const VERSION_PLACE: u64 = 12;
 
-/// A store on a disk, with any number of callers. A commit that answers `DiskFault` is not made, and the store serves
-/// on. With `doubt: true` a load may still find that commit, until a later commit ends the doubt.
+/// A store on two disks, with any number of callers. A commit that answers `DiskFault` is not made, and the store
+/// serves on. With `doubt: true` a load may still find that commit, until a later commit ends the doubt.
 #[derive(Drop)]
 pub struct Store<D: Disk> {
     alloc: Global,
     memory: Memory,
-    journal: Journal<D>,
-    b: D,
+    pub(crate) pair: Pair<D>,
 }
 
 impl<D: Disk> Model for Store<D> {
@@ -60,19 +65,19 @@ impl<D: Disk> Model for Store<D> {
 
     ghost Value = { StoreTerm D };
 
-    ghost view = { λ s. record { memory = s.memory; journal = s.journal; b = s.b } };
+    ghost view = { λ s. record { memory = s.memory; pair = s.pair } };
 
-    ghost invariant = { λ s. IsReady s.memory s.journal };
+    ghost invariant = { λ s. IsReady s.memory s.pair };
 }
 
-impl<D: Disk> Store<D> {
-    /// Opens the store of disk `a`, which has a journal of format 1. It takes `commits` commits in all, 1 to
-    /// `MOST_COMMITS`; those that are there stay, also where they are more. What the head does not read is dropped from
-    /// memory. Nothing is written.
+impl<D: Disk + Drop> Store<D> {
+    /// Opens the store of two disks. Of two that are open the one of greater generation is read, and `a` where both are
+    /// equal. The store takes `commits` commits in all, 1 to `MOST_COMMITS`; those that are there stay, also where they
+    /// are more. What the head does not read is dropped from memory. Nothing is written.
     ///
-    /// `NotAStore`: the disk has no header of format 1; a disk in format 2 is refused so. `Damaged(at)`: the journal is
-    /// damaged at this place, or its commit there may not follow those before it, or has a text without a structure.
-    /// `Disk`: a call of disk `a` failed, and counted a fault. `NoMemory`: memory ran out. The disks come back beside
+    /// `NotAStore`: neither disk has a whole header. `Damaged(at)`: the disk that is read is damaged at this place, or
+    /// its base record or commit there has a text without a structure, or its commit there may not follow those before
+    /// it. `Disk`: a call of a disk failed, and counted a fault. `NoMemory`: memory ran out. The disks come back beside
     /// each fault.
     pub fn load(
         alloc: Global,
@@ -83,44 +88,50 @@ impl<D: Disk> Store<D> {
         requires few { commits ≤ MOST_COMMITS }
 
         ensures opened { IfOk result (λ store. (s : State) × StandsFor D.model store s
-            × IsOpened commits s × IfTold (D.model.content disks.a) (OpensTo s.history)) }
-        // A crash now may leave what a read gives.
-        ensures synced { IfOk result (λ store. IfTold (D.model.content store.journal.disk)
-            (D.model.images store.journal.disk)) }
+            × IsOpened commits s × IfTold (D.model.content disks.a)
+            (λ x. IfTold (D.model.content disks.b) (λ y. OpensTo s.history s.generation x y))) }
+        // A crash now may leave of the disk that was read what a read gives.
+        ensures synced { IfOk result (λ store. IfTold (D.model.content store.pair.journal.disk)
+            (D.model.images store.pair.journal.disk)) }
         ensures not_a_store { IfErr result (λ e. e.0 ≡ LoadFault.NotAStore
-            → IfTold (D.model.content disks.a) IsNoJournal) }
+            → IfTold (D.model.content disks.a)
+            (λ x. IfTold (D.model.content disks.b) (λ y. (¬ IsOpen x) × (¬ IsOpen y)))) }
         ensures damaged { IfErr result (λ e. (at : ℕ) → e.0 ≡ LoadFault.Damaged at
-            → IfTold (D.model.content disks.a) (Damages at)) }
+            → IfTold (D.model.content disks.a)
+            (λ x. IfTold (D.model.content disks.b) (Damages at x))) }
         ensures cause { IfErr result (λ e. e.0 ≡ LoadFault.Disk
-            → Rose (D.model.faults disks.a) (D.model.faults e.1.a)) }
+            → Rose (D.model.faults disks.a) (D.model.faults e.1.a)
+            ⊎ Rose (D.model.faults disks.b) (D.model.faults e.1.b)) }
 
         // What a read gives stays, and each image during the call was one before.
-        ensures narrows { Narrows D.model disks.a (a_after result) }
-        ensures other { b_after result ≡ disks.b }
+        ensures narrows_a { Narrows D.model disks.a (a_after result) }
+        ensures narrows_b { Narrows D.model disks.b (b_after result) }
     {
+        rebases_keep();
         let Disks { a, b } = disks;
-        let mut journal = match Journal::load(alloc, a) {
-            Ok(journal) => journal,
-            Err((fault, a)) => return Err((fault, Disks { a, b })),
+        let picked = match disk_pair::load(alloc, a, b) {
+            Ok(picked) => picked,
+            Err((fault, a, b)) => return Err((fault, Disks { a, b })),
         };
-        if journal.place() != FIRST_RECORD {
-            let a = journal.into_disk();
-            return Err((LoadFault::NotAStore, Disks { a, b }));
-        }
+        let Picked {
+            mut journal,
+            other,
+            second,
+        } = picked;
         match memory_of(alloc, &mut journal, commits) {
             Ok(memory) => Ok(Store {
                 alloc,
                 memory,
-                journal,
-                b,
+                pair: Pair::new(
+                    alloc,
+                    Picked {
+                        journal,
+                        other,
+                        second,
+                    },
+                ),
             }),
-            Err(fault) => Err((
-                fault,
-                Disks {
-                    a: journal.into_disk(),
-                    b,
-                },
-            )),
+            Err(fault) => Err((fault, disks_of(journal.into_disk(), other, second))),
         }
     }
 
@@ -133,28 +144,27 @@ impl<D: Disk> Store<D> {
 
     /// The disks. Takes no memory.
     pub fn into_disks(self) -> Disks<D>
-        ensures a { result.a ≡ self.journal.disk }
-        ensures b { result.b ≡ self.b }
+        ensures a { result.a ≡ disk_a self.pair }
+        ensures b { result.b ≡ disk_b self.pair }
     {
-        Disks {
-            a: self.journal.into_disk(),
-            b: self.b,
-        }
+        let (a, b) = self.pair.into_disks();
+        Disks { a, b }
     }
 }
 
 impl Store<MemDisk> {
     /// A store without commits on empty disks in memory, which takes `commits` commits in all, 1 to `MOST_COMMITS`.
-    /// Fails where memory runs out.
+    /// Disk `a` is read. Fails where memory runs out.
     pub fn fresh(alloc: Global, commits: u32) -> Result<Store<MemDisk>, AllocError>
         requires some { 1 ≤ commits }
         requires few { commits ≤ MOST_COMMITS }
-        ensures opened { IfOk result (λ store. (s : State) × StandsInMemory store s × IsOpened commits s
-            × (s.history ≡ begun)) }
+        ensures opened { IfOk result (λ store. (s : State) × StandsInMemory store s
+            × IsOpened commits s × (s.history ≡ begun)) }
         ensures empty { IfOk result (λ store. StandsInMemory store (empty commits)) }
-        ensures no_failures { IfOk result (λ store. (bound_of store.journal.disk.failures ≡ Some 0)
-            × (bound_of store.b.failures ≡ Some 0)) }
+        ensures no_failures { IfOk result (λ store. (bound_of (disk_a store.pair).failures ≡ Some 0)
+            × (bound_of (disk_b store.pair).failures ≡ Some 0)) }
     {
+        a_pair_opens_one_way();
         let (a, created) = Journal::create(MemDisk::new(alloc));
         let b = MemDisk::new(alloc);
         if created.is_err() {
@@ -170,32 +180,28 @@ impl Store<MemDisk> {
     pub fn stop_after(&mut self, calls: u64)
         ensures stands { (s : State) → StandsInMemory self.old s → StandsInMemory self.new s }
         ensures only { self.new ≡ record self.old {
-          journal = record self.old.journal {
-            disk = record self.old.journal.disk {
-              failures = record self.old.journal.disk.failures { passes = Some calls };
-            };
-          };
+          pair = changed First (λ d. record d {
+            failures = record d.failures { passes = Some calls };
+          }) self.old.pair;
         } }
     {
-        self.journal.stop_after(calls);
+        self.pair.stop_after(Which::First, calls);
     }
 
     /// The call of disk `a` of this number from now, counted from 1, fails. Takes no memory.
     pub fn fail_once(&mut self, call: u64)
         ensures stands { (s : State) → StandsInMemory self.old s → StandsInMemory self.new s }
         ensures only { self.new ≡ record self.old {
-          journal = record self.old.journal {
-            disk = record self.old.journal.disk {
-              failures = record self.old.journal.disk.failures { once = Some call };
-            };
-          };
+          pair = changed First (λ d. record d {
+            failures = record d.failures { once = Some call };
+          }) self.old.pair;
         } }
     {
-        self.journal.fail_once(call);
+        self.pair.fail_once(Which::First, call);
     }
 }
 
-impl<D: Disk> Service for Store<D> {
+impl<D: Disk + Drop> Service for Store<D> {
     ghost use Rattle.store_disk.specs.Stored.{joins, lands, same, stays};
 
     ghost at = { StandsFor D.model };
@@ -208,19 +214,23 @@ impl<D: Disk> Service for Store<D> {
 
     ghost holds = { λ store. HoldsPin store.memory };
 
-    ghost bounds = { λ store. (D.model.bound store.journal.disk, D.model.bound store.b) };
+    ghost bounds = { λ store.
+        (D.model.bound (disk_a store.pair), D.model.bound (disk_b store.pair)) };
 
     fn commit(&mut self, change: Change) -> Result<u32, CommitFault> {
-        laws();
+        laws(&self.pair);
         let payload = payload_of(self.alloc, &change)?;
         self.memory.prepare(&change)?;
-        put(&mut self.journal, &payload)?;
+        match self.pair.append(&payload) {
+            Ok(()) => {}
+            Err(fault) => return Err(commit_fault(fault)),
+        }
         self.memory.make(change);
         Ok(self.memory.version())
     }
 
     fn pin(&mut self) -> Result<Option<Pin>, CallFault> {
-        laws();
+        laws(&self.pair);
         self.memory.pin()
     }
 
@@ -249,30 +259,30 @@ impl<D: Disk> Service for Store<D> {
         ensures worn { WornAs ⊥ ⊥ (is_worn result) }
         ensures held { SameHeld (HoldsPin self.old.memory) (HoldsPin self.new.memory) }
         ensures bounds { NotRaised
-            (D.model.bound self.old.journal.disk, D.model.bound self.old.b)
-            (D.model.bound self.new.journal.disk, D.model.bound self.new.b) }
+            (D.model.bound (disk_a self.old.pair), D.model.bound (disk_b self.old.pair))
+            (D.model.bound (disk_a self.new.pair), D.model.bound (disk_b self.new.pair)) }
     {
-        laws();
+        laws(&self.pair);
         self.memory.fetch(pin, want, from, limit, page, steps)
     }
 
     fn unpin(&mut self, pin: Pin) -> Result<(), CallFault> {
-        laws();
+        laws(&self.pair);
         self.memory.unpin(pin)
     }
 
     fn prune(&mut self) -> Result<u32, CallFault> {
-        laws();
+        laws(&self.pair);
         self.memory.prune()
     }
 
     fn look(&mut self, id: u32) -> Result<Look, CallFault> {
-        laws();
+        laws(&self.pair);
         self.memory.look(id)
     }
 
     fn stats(&mut self) -> Result<Stats, CallFault> {
-        laws();
+        laws(&self.pair);
         self.memory.stats()
     }
 
@@ -285,7 +295,7 @@ impl<D: Disk> Service for Store<D> {
     ghost same = { same D.model };
 }
 
-// The store in memory of a journal's commits, which are read to their end.
+// The store in memory of a journal that was just opened, which is read to its end.
 fn memory_of<D: Disk>(
     alloc: Global,
     journal: &mut Journal<D>,
@@ -293,22 +303,56 @@ fn memory_of<D: Disk>(
 ) -> Result<Memory, LoadFault>
     requires some { 1 ≤ commits }
     requires few { commits ≤ MOST_COMMITS }
-    requires start { journal.old.place ≡ 8 }
-    requires based { journal.old.left ≡ 0 }
-    requires settled { journal.old.doubt ≡ false }
+    requires opening { IsOpening D.model journal.old }
 
     ensures loaded { IfOk result (λ memory. IsLoaded D.model memory commits
         journal.old journal.new) }
-    ensures ready { IfOk result (λ memory. IsReady memory journal.new) }
-    ensures damaged { OnDamaged result (λ at. Reads D.model journal.old header []
-        → IfTold (D.model.content journal.old.disk) (Damages at)) }
+    ensures ready { OnOk result (journal.new.ready ≡ true) }
+    ensures place { IfOk result (λ memory. journal.new.place
+        ≤ 20 + (5 + LONGEST_PAYLOAD) * (journal.new.header.base_count + memory.version)) }
+    ensures damaged { OnDamaged result (λ at. IfTold (D.model.content journal.old.disk)
+        (DamagesDisk at)) }
     ensures cause { IsErrOf result LoadFault.Disk
         → Faulted D.model journal.old.disk journal.new.disk }
     ensures no_other { ¬ IsErrOf result LoadFault.NotAStore }
 
+    ensures header { journal.new.header ≡ journal.old.header }
     ensures settled { journal.new.doubt ≡ false }
     ensures looks { Looks D.model journal.old.disk journal.new.disk }
 {
+    let version = journal.header().base_version;
+    if version > MOST_COMMITS {
+        return Err(LoadFault::Damaged(VERSION_PLACE));
+    }
+    let base = read_base(alloc, journal)?;
     let log = read_all(alloc, journal)?;
-    replay(alloc, &log, commits)
+    replay(alloc, version, &base, &log, commits)
+}
+
+// The two disks, of which the second one may be the current one.
+fn disks_of<D>(current: D, other: D, second: bool) -> Disks<D>
+    ensures a { result.a ≡ first_of second current other }
+    ensures b { result.b ≡ first_of second other current }
+{
+    if second {
+        Disks {
+            a: other,
+            b: current,
+        }
+    } else {
+        Disks {
+            a: current,
+            b: other,
+        }
+    }
+}
+
+// Why a commit was not made, where the disks refused it.
+fn commit_fault(fault: PutFault) -> CommitFault
+    ensures { result ≡ commit_fault fault }
+{
+    match fault {
+        PutFault::DiskFault { doubt } => CommitFault::DiskFault { doubt },
+        PutFault::NoMemory => CommitFault::NoMemory,
+    }
 }

@@ -1,4 +1,5 @@
-//! A store is made, stopped or failed at each call of its disk, and loaded again; and files that are damaged.
+//! A store is made, stopped or failed at each call of its disk, and loaded again; and files that are damaged, on one
+//! disk and on two.
 
 use crate::{Disks, Store};
 use disk_edge::MemDisk;
@@ -24,10 +25,15 @@ fn register(
     }
 }
 
-// How many commits a disk has.
+// How many commits a disk has beside an empty one.
 fn commits(alloc: Global, a: MemDisk) -> Result<u32, LoadFault> {
     let b = MemDisk::new(alloc);
-    match Store::load(alloc, Disks { a, b }, 10) {
+    version(alloc, Disks { a, b })
+}
+
+// The version of the store of two disks.
+fn version(alloc: Global, disks: Disks<MemDisk>) -> Result<u32, LoadFault> {
+    match Store::load(alloc, disks, 10) {
         Ok(store) => {
             let mut store = store;
             match store.stats() {
@@ -66,10 +72,7 @@ fn a_file_is_loaded_or_its_damage_told(rt: HostRuntime) -> Result<(), Fail> {
     let alloc = rt.alloc();
     let rows: [(&[u8], Result<u32, LoadFault>); 14] = [
         (b"", Err(LoadFault::NotAStore)),
-        (
-            b"ZCHEMDB2\0\0\0\0\0\0\0\0\0\0\0\0\0",
-            Err(LoadFault::NotAStore),
-        ),
+        (b"ZCHEMDB2\0\0\0\0\0\0\0\0\0\0\0\0\0", Ok(0)),
         (b"ZCHEMDB3\0", Err(LoadFault::NotAStore)),
         (b"ZCHEMDB1\0", Ok(0)),
         (b"ZCHEMDB1", Err(LoadFault::Damaged(8))),
@@ -108,6 +111,71 @@ fn a_file_is_loaded_or_its_damage_told(rt: HostRuntime) -> Result<(), Fail> {
         let disk = MemDisk::of(alloc, file.to_vec(alloc)?)?;
         assert_eq!(rt; commits(alloc, disk), want, "{want:?}");
     }
+    Ok(())
+}
+
+// A disk without commits, and one whose base has a structure, a withdrawn identifier, and a commit behind it.
+const EMPTY: [u8; 9] = *b"ZCHEMDB1\0";
+
+const COMPACTED: [u8; 59] = *b"ZCHEMDB2\x01\0\0\0\x03\0\0\0\x02\0\0\0\
+    \x0b\0\0\0\x04\x01\0\0\0\x01\0\0\0\x01C\
+    \x09\0\0\0\x05\x02\0\0\0\x03\0\0\0\
+    Z\x05\0\0\0\x03\x01\0\0\0\0";
+
+#[test]
+fn the_disk_of_the_later_generation_is_read(rt: HostRuntime) -> Result<(), Fail> {
+    let alloc = rt.alloc();
+    let rows: [(&[u8], &[u8], Result<u32, LoadFault>); 7] = [
+        (&EMPTY, &COMPACTED, Ok(4)),
+        (&COMPACTED, &EMPTY, Ok(4)),
+        (
+            b"ZCHEMDB1Z\x07\0\0\0\x01\x01\0\0\0\x01C\0",
+            b"ZCHEMDB2\0\0\0\0\x05\0\0\0\0\0\0\0\0",
+            Ok(1),
+        ),
+        (b"ZCHEMDB2\x02\0\0\0\x05\0\0\0\0\0\0\0\0", &COMPACTED, Ok(5)),
+        (
+            &EMPTY,
+            b"ZCHEMDB2\x01\0\0\0\0\0\0\x01\0\0\0\0\0",
+            Err(LoadFault::Damaged(12)),
+        ),
+        (
+            &EMPTY,
+            b"ZCHEMDB2\x01\0\0\0\x03\0\0\0\x01\0\0\0\x09\0\0\0\x05\x02\0\0\0\x04\0\0\0\0",
+            Err(LoadFault::Damaged(20)),
+        ),
+        (
+            &EMPTY,
+            b"ZCHEMDB2\x01\0\0\0\x03\0\0\0\x01\0\0\0\x0b\0\0\0\x04\x01\0\0\0\x01\0\0\0\x01(\0",
+            Err(LoadFault::Damaged(20)),
+        ),
+    ];
+    for (first, second, want) in rows {
+        let a = MemDisk::of(alloc, first.to_vec(alloc)?)?;
+        let b = MemDisk::of(alloc, second.to_vec(alloc)?)?;
+        assert_eq!(rt; version(alloc, Disks { a, b }), want, "{want:?}");
+    }
+    Ok(())
+}
+
+#[test]
+fn a_commit_is_on_the_disk_that_is_read(rt: HostRuntime) -> Result<(), Fail> {
+    let alloc = rt.alloc();
+    let a = MemDisk::of(alloc, EMPTY.to_vec(alloc)?)?;
+    let b = MemDisk::of(alloc, COMPACTED.to_vec(alloc)?)?;
+    let Ok(store) = Store::load(alloc, Disks { a, b }, 5) else {
+        return Err(Fail::new("not loaded"));
+    };
+    let mut store = store;
+    assert_eq!(rt;
+        register(alloc, &mut store, 2, b"C"),
+        Err(CommitFault::Known)
+    );
+    assert_eq!(rt; register(alloc, &mut store, 3, b"C"), Ok(5));
+    let disks = store.into_disks();
+    assert_eq!(rt; disks.a.bytes(), EMPTY.as_slice());
+    assert_eq!(rt; disks.b.bytes().len(), COMPACTED.len() + 12);
+    assert_eq!(rt; version(alloc, disks), Ok(5));
     Ok(())
 }
 

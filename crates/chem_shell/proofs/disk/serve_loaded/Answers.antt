@@ -1,20 +1,20 @@
-use Rattle.std.proofs.Common.{◌∙◌, rules, subst, sym}
+use Rattle.std.proofs.Common.{rules, subst, sym}
 use Rattle.session_run.specs.Served.{IsServedBy, TakesAtMost}
 use Rattle.session_run.specs.Truths.{IsInRun}
 use Rattle.session_run.specs.declared.settings.Settings.{Settings}
 use Rattle.store_machine.specs.declared.machine.State.{State}
-use Rattle.chem_shell.proofs.Loaded.{in_run, on_this_disk}
+use Rattle.chem_shell.proofs.Loaded.{in_run, on_these_disks}
 use Rattle.chem_shell.proofs.Transcripts.{script_of, served_true}
 use Rattle.chem_shell.proofs.disk.serve_loaded.Goals as goal
 
 pub returns-clause-runs : goal.returns-clause-runs
-returns-clause-runs g c = λ a s stands opened opens read.
+returns-clause-runs g c = λ disks s stands opened opens read_a read_b.
     let d = g.D.Disk.model in
     let serves = c.session-ended.ensures.serves in
     let made = serves.1.made s stands in
-    let on = on_this_disk c.replies_tell.ensures.commits d c.a_standing_store_opens.ensures c.args.plan.now.commits a s
-    c.args.store c.session-ended.new.service stands opened opens read serves.0 c.into_disks.result.a
-    c.into_disks.ensures.a made in
+    let on = on_these_disks c.replies_tell.ensures.commits c.runs_stay_sound.ensures c.rebases_keep.ensures.grown d
+    c.args.plan.now.commits disks s c.args.store c.session-ended.new.service c.a_standing_store_opens.ensures stands
+    opened opens read_a read_b serves.0 c.into_disks.result c.into_disks.ensures.a c.into_disks.ensures.b made in
     record {
       calls = serves.0;
       on = on.0;
@@ -36,7 +36,3 @@ returns-clause-runs g c = λ a s stands opened opens read.
 pub returns-clause-ends : goal.returns-clause-ends
 returns-clause-ends g c =
     record { source_fault = search rules; sink_fault = search rules; input_too_long = search rules }
-
-pub returns-clause-other : goal.returns-clause-other
-returns-clause-other g c = λ s stands.
-    c.into_disks.ensures.b ∙ (c.session-ended.ensures.serves.1.made s stands).stands.other

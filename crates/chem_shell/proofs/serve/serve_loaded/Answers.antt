@@ -1,4 +1,5 @@
 use Rattle.std.proofs.Common.{◌≡◌, ◌∙◌, OnErr, OnOk, map, refl, ap, sym, subst, inr}
+use Rattle.disk_pair.specs.Term.{Paired, disk_a, disk_b}
 use Rattle.journal_core.specs.Looks.{Narrows}
 use Rattle.session_run.specs.declared.settings.Settings.{Settings}
 use Rattle.serve_ends.specs.Serving.{Serving}
@@ -6,18 +7,21 @@ use Rattle.store_disk.specs.OnDisk.{StoreTerm}
 use Rattle.hall.specs.Passes.{Ends}
 use Rattle.hall.specs.declared.hall.HallPass.{HallPass}
 use Rattle.chem_shell.specs.Ends.{with_status}
+use Rattle.chem_shell.specs.OnDisks.{ServesOn}
 use Rattle.chem_shell.specs.Status.{first_fault}
 use Rattle.chem_shell.specs.Words.{settings_of}
 use Rattle.chem_shell.specs.declared.request.Verb.TheVariants.{Serve}
-use Rattle.chem_shell.proofs.Desks.{end_causes, other_disk, serves_on, unserved_disk}
+use Rattle.chem_shell.proofs.Desks.{end_causes, serves_on, unserved_pair}
 use Rattle.chem_shell.proofs.Done.{memory_causes, refused_by, served_done}
 use Rattle.chem_shell.proofs.serve.serve_loaded.Goals as goal
 
 pub start-requires : goal.start-requires
-start-requires g c = record { stands = c.requires.standing }
+start-requires g c =
+    let o = c.requires.standing in
+    record { stands = (o.0, o.1, (c.args.plan.now.commits, o.2)) }
 
 pub returns-in-Ok-served : goal.returns-in-Ok-served
-returns-in-Ok-served g c = λ a s stands opened opens synced read.
+returns-in-Ok-served g c = λ disks read_a read_b.
     let d = g.D.Disk.model in
     let new = c.serve_ends-ends.new.pass in
     let r = c.served.result in
@@ -30,51 +34,48 @@ returns-in-Ok-served g c = λ a s stands opened opens synced read.
     (sym c.served.ensures.ends)
     (subst (λ (settings : Settings). Serving g.S.Source g.K.Sink settings c.in-Ok.pass new c.args.ends.items
     c.serve_ends-ends.result.0.items) c.settings.ensures given) in
-    let on = serves_on d g.S.Source g.K.Sink c.replies_tell.ensures.commits c.kept_is_read.ensures
-    c.services_are_true.ensures c.a_standing_store_opens.ensures c.args.plan.now a c.args.store s stands opened synced read
-    c.in-Ok.pass c.in-Ok.ensures.begins c.close.result new r.a c.args.ends.items r.ends.items c.close.ensures serving
-    (c.served.ensures.disk_a ∙ c.into_disks-disks.ensures.a) in
+    let o = c.requires.standing in
+    let on = serves_on d g.S.Source g.K.Sink c.replies_tell.ensures.commits c.runs_stay_sound.ensures
+    c.rebases_keep.ensures.grown c.rebases_keep.ensures.stays c.services_are_true.ensures
+    g.met.D.Disk.content_is_image c.args.plan.now disks c.args.store c.a_standing_store_opens.ensures o.0 o.1 o.2 read_a
+    read_b c.in-Ok.pass c.in-Ok.ensures.begins c.close-store.result c.a_standing_store_opens-in-Ok.ensures new
+    c.into_disks-disks.result c.args.ends.items r.ends.items c.close-store.ensures serving c.into_disks-disks.ensures.a
+    c.into_disks-disks.ensures.b in
     let causes = end_causes g.S.Source g.K.Sink c.args.plan.now c.args.ends.items r.ends.items serving.count
     (λ i d less. (_, serving.each i d less)) in
     served_done g.D.Disk.model g.S.Source.left g.S.Source.faults g.K.Sink.written g.K.Sink.faults c.args.plan.now Serve
-    (record { a = a; b = c.args.store.b }) c.args.ends.items r c.requires.verb (inr on) causes.0 causes.1
+    disks c.args.ends.items r c.requires.verb 
+    (inr (subst (λ x. ServesOn d g.S.Source.left g.K.Sink.written c.args.plan.now disks x c.args.ends.items r.ends.items)
+    (sym c.served.ensures.disks) on)) causes.0 causes.1
     (c.served.ensures.status ∙ ap (λ v. first_fault (map (λ end. end.status) v.items)) (sym c.served.ensures.ends))
     c.served.ensures.place
-    (c.served.ensures.disk_b ∙ (c.into_disks-disks.ensures.b
-    ∙ other_disk d g.S.Source g.K.Sink c.replies_tell.ensures.commits c.kept_is_read.ensures c.services_are_true.ensures
-    c.a_standing_store_opens.ensures c.args.plan.now a c.args.store s stands opened synced read c.in-Ok.pass
-    c.in-Ok.ensures.begins c.close.result new c.close.ensures serving.origin))
 
 pub returns-in-Err-served : goal.returns-in-Err-served
-returns-in-Err-served g c = λ a s stands opened opens synced read.
+returns-in-Err-served g c = λ disks read_a read_b.
     let d = g.D.Disk.model in
     let kept : (c.serve_ends-ends.new.pass ≡ c.in-Ok.pass) × (c.serve_ends-ends.result.0 ≡ c.args.ends) =
     subst (λ x. OnErr x ((c.serve_ends-ends.new.pass ≡ c.in-Ok.pass) × (c.serve_ends-ends.result.0 ≡ c.args.ends)))
     c.in-Err-served.is c.serve_ends-ends.ensures.memory in
-    let closed = subst (λ (p : HallPass _). Ends d p c.close.result) kept.0 c.close.ensures in
+    let closed = subst (λ (p : HallPass _). Ends d p c.close-store.result) kept.0 c.close-store.ensures in
+    let same = unserved_pair d c.args.store c.in-Ok.pass c.in-Ok.ensures.begins c.close-store.result closed in
+    let back = c.into_disks-disks.ensures in
     refused_by g.D.Disk.model g.S.Source.left g.S.Source.faults g.K.Sink.written g.K.Sink.faults c.args.plan.now
-    (record { a = a; b = c.args.store.b }) c.into_disks-disks.result c.args.ends.items c.unserved.result 8 0
-    c.requires.verb (inr (inr (inr refl)))
-    (unserved_disk d g.S.Source g.K.Sink c.replies_tell.ensures.commits c.kept_is_read.ensures c.services_are_true.ensures
-    c.a_standing_store_opens.ensures c.args.plan.now a c.args.store s stands opened synced read c.in-Ok.pass
-    c.in-Ok.ensures.begins c.close.result c.into_disks-disks.result.a closed c.into_disks-disks.ensures.a)
-    (memory_causes d a c.into_disks-disks.result.a)
-    (c.into_disks-disks.ensures.b
-    ∙ other_disk d g.S.Source g.K.Sink c.replies_tell.ensures.commits c.kept_is_read.ensures c.services_are_true.ensures
-    c.a_standing_store_opens.ensures c.args.plan.now a c.args.store s stands opened synced read c.in-Ok.pass
-    c.in-Ok.ensures.begins c.close.result c.in-Ok.pass closed refl)
-    c.unserved.ensures.status c.unserved.ensures.place c.unserved.ensures.disk_a c.unserved.ensures.disk_b
+    disks c.into_disks-disks.result c.args.ends.items c.unserved.result 8 0 c.requires.verb (inr (inr (inr refl)))
+    (subst (Narrows d disks.a) (sym (back.a ∙ ap (λ (p : Paired _). disk_a p) same)) read_a)
+    (subst (Narrows d disks.b) (sym (back.b ∙ ap (λ (p : Paired _). disk_b p) same)) read_b)
+    (memory_causes d disks c.into_disks-disks.result)
+    c.unserved.ensures.status c.unserved.ensures.place c.unserved.ensures.disks
     (subst (λ v. c.unserved.result.ends.items ≡ map (with_status 8) v.items) kept.1 c.unserved.ensures.ends)
 
 pub returns-in-Err : goal.returns-in-Err
-returns-in-Err g c = λ a s stands opened opens synced read.
+returns-in-Err g c = λ disks read_a read_b.
     let d = g.D.Disk.model in
     let same = c.in-Err.ensures.back in
+    let back = c.into_disks.ensures in
     refused_by g.D.Disk.model g.S.Source.left g.S.Source.faults g.K.Sink.written g.K.Sink.faults c.args.plan.now
-    (record { a = a; b = c.args.store.b }) c.into_disks.result c.args.ends.items c.unserved-in-Err.result 8 0
-    c.requires.verb (inr (inr (inr refl)))
-    (subst (Narrows d a) (sym (c.into_disks.ensures.a ∙ ap (λ (x : StoreTerm _). x.journal.disk) same)) read)
-    (memory_causes d a c.into_disks.result.a)
-    (c.into_disks.ensures.b ∙ ap (λ (x : StoreTerm _). x.b) same)
-    c.unserved-in-Err.ensures.status c.unserved-in-Err.ensures.place c.unserved-in-Err.ensures.disk_a
-    c.unserved-in-Err.ensures.disk_b c.unserved-in-Err.ensures.ends
+    disks c.into_disks.result c.args.ends.items c.unserved-in-Err.result 8 0 c.requires.verb (inr (inr (inr refl)))
+    (subst (Narrows d disks.a) (sym (back.a ∙ ap (λ (x : StoreTerm _). disk_a x.pair) same)) read_a)
+    (subst (Narrows d disks.b) (sym (back.b ∙ ap (λ (x : StoreTerm _). disk_b x.pair) same)) read_b)
+    (memory_causes d disks c.into_disks.result)
+    c.unserved-in-Err.ensures.status c.unserved-in-Err.ensures.place c.unserved-in-Err.ensures.disks
+    c.unserved-in-Err.ensures.ends

@@ -1,5 +1,6 @@
 use Rattle.std.proofs.Common.{refl, ap, ◌∙◌, sym, inl, inr, Err}
 use Rattle.std.proofs.lemmas.Bool.{eqb-false}
+use Rattle.chem_shell.specs.Contents.{disks_of}
 use Rattle.chem_shell.specs.Ends.{with_status}
 use Rattle.chem_shell.specs.Loading.{HasEndCauses}
 use Rattle.chem_shell.specs.declared.request.Verb.TheVariants.{Mem, Init, Run, Serve, Bulk, Drill}
@@ -66,36 +67,41 @@ returns-in-Err-NoMemory-clause-overall g c = λ asks some.
 
 pub returns-in-Err-NoMemory-clause-mem : goal.returns-in-Err-NoMemory-clause-mem
 returns-in-Err-NoMemory-clause-mem g c = λ plan asks verb. (
-  c.unserved-in-Err-NoMemory.ensures.disk_a,
+  c.unserved-in-Err-NoMemory.ensures.disks,
   zip_mapped _ (with_status 8) (λ e. mem_unmoved plan g.S.Source.left g.K.Sink.written e) _ _ c.unserved-in-Err-NoMemory.ensures.ends,
 )
 
 pub returns-in-Err-NoMemory-clause-init : goal.returns-in-Err-NoMemory-clause-init
 returns-in-Err-NoMemory-clause-init g c = λ plan asks verb. (
   none_mapped (with_status 8) _ _ (no_ends c.args.ends.items _ plan asks verb c.requires.ends) c.unserved-in-Err-NoMemory.ensures.ends,
-  creates_nothing g.D.Disk.model c.args.a c.unserved-in-Err-NoMemory.result.a c.unserved-in-Err-NoMemory.result.status c.unserved-in-Err-NoMemory.ensures.status c.unserved-in-Err-NoMemory.ensures.disk_a,
+  creates_nothing g.D.Disk.model (record { a = c.args.a; b = c.args.b }) (disks_of c.unserved-in-Err-NoMemory.result)
+      c.unserved-in-Err-NoMemory.result.status c.unserved-in-Err-NoMemory.ensures.status
+      c.unserved-in-Err-NoMemory.ensures.disks,
 )
 
 pub returns-in-Err-NoMemory-clause-run : goal.returns-in-Err-NoMemory-clause-run
 returns-in-Err-NoMemory-clause-run g c = λ plan asks verb.
-    let read = c.unserved-in-Err-NoMemory.ensures.read in
+    let r = c.unserved-in-Err-NoMemory.ensures in
     zip_mapped _ (with_status 8)
-    (λ e. inl (refused_unmoved g.D.Disk.model c.args.a c.unserved-in-Err-NoMemory.result.a read e)) _ _ c.unserved-in-Err-NoMemory.ensures.ends
+    (λ e. inl (refused_unmoved g.D.Disk.model (record { a = c.args.a; b = c.args.b })
+    (disks_of c.unserved-in-Err-NoMemory.result) r.read_a r.read_b e)) _ _ r.ends
 
 pub returns-in-Err-NoMemory-clause-serve : goal.returns-in-Err-NoMemory-clause-serve
 returns-in-Err-NoMemory-clause-serve g c = λ plan asks verb.
-    let read = c.unserved-in-Err-NoMemory.ensures.read in
-    inl (refused_all g.D.Disk.model g.S.Source.left g.S.Source.faults g.K.Sink.written g.K.Sink.faults c.args.a c.unserved-in-Err-NoMemory.result.a 8 _ _ (inr (inr (inr refl))) read c.unserved-in-Err-NoMemory.ensures.ends)
+    let r = c.unserved-in-Err-NoMemory.ensures in
+    inl (refused_all g.D.Disk.model g.S.Source.left g.S.Source.faults g.K.Sink.written g.K.Sink.faults
+    (record { a = c.args.a; b = c.args.b }) (disks_of c.unserved-in-Err-NoMemory.result) 8 _ _ (inr (inr (inr refl)))
+    r.read_a r.read_b r.ends)
 
 pub returns-in-Err-NoMemory-clause-bulk : goal.returns-in-Err-NoMemory-clause-bulk
 returns-in-Err-NoMemory-clause-bulk g c = λ plan asks verb. (
-  c.unserved-in-Err-NoMemory.ensures.disk_a,
+  c.unserved-in-Err-NoMemory.ensures.disks,
   zip_mapped _ (with_status 8) (λ e. bulk_unmoved plan g.K.Sink.written e) _ _ c.unserved-in-Err-NoMemory.ensures.ends,
 )
 
 pub returns-in-Err-NoMemory-clause-drill : goal.returns-in-Err-NoMemory-clause-drill
 returns-in-Err-NoMemory-clause-drill g c = λ plan asks verb. (
-  c.unserved-in-Err-NoMemory.ensures.disk_a,
+  c.unserved-in-Err-NoMemory.ensures.disks,
   zip_mapped _ (with_status 8) (λ e. drill_unmoved plan g.S.Source.left g.K.Sink.written e) _ _
       c.unserved-in-Err-NoMemory.ensures.ends,
 )
@@ -116,11 +122,8 @@ returns-in-Ok-clause-no_plan g c = λ none. absurd (none (c.in-Ok.plan, c.in-Ok.
 pub returns-in-Ok-clause-no_plan_takes_nothing : goal.returns-in-Ok-clause-no_plan_takes_nothing
 returns-in-Ok-clause-no_plan_takes_nothing g c = λ none. absurd (none (c.in-Ok.plan, c.in-Ok.ensures.ok))
 
-pub returns-in-Ok-clause-no_plan_disk : goal.returns-in-Ok-clause-no_plan_disk
-returns-in-Ok-clause-no_plan_disk g c = λ none. absurd (none (c.in-Ok.plan, c.in-Ok.ensures.ok))
-
-pub returns-in-Ok-clause-disk_b : goal.returns-in-Ok-clause-disk_b
-returns-in-Ok-clause-disk_b g c = c.carry_out.ensures.other
+pub returns-in-Ok-clause-no_plan_disks : goal.returns-in-Ok-clause-no_plan_disks
+returns-in-Ok-clause-no_plan_disks g c = λ none. absurd (none (c.in-Ok.plan, c.in-Ok.ensures.ok))
 
 pub returns-in-Ok-clause-overall : goal.returns-in-Ok-clause-overall
 returns-in-Ok-clause-overall g c = λ asks some. c.carry_out.ensures.overall some
@@ -177,8 +180,9 @@ returns-in-Ok-clause-run g c = λ plan asks verb.
     let left = leaves_by g.D.Disk.model g.S.Source.left g.S.Source.faults g.K.Sink.written g.K.Sink.faults
     c.in-Ok.plan.command Run c.in-Ok.plan (record { a = c.args.a; b = c.args.b }) c.args.ends.items c.carry_out.result
     (sym same.command ∙ verb) c.carry_out.ensures.leaves in
-    zip_weaker _ _ (λ old new s. runs_same g.D.Disk.model g.S.Source.left g.K.Sink.written plan c.in-Ok.plan c.args.a
-    c.carry_out.result.a c.args.b old new same.commits same.page s) c.args.ends.items c.carry_out.result.ends.items left
+    zip_weaker _ _ (λ old new s. runs_same g.D.Disk.model (record { a = c.args.a; b = c.args.b })
+    (disks_of c.carry_out.result) g.S.Source.left g.K.Sink.written plan c.in-Ok.plan old new same.commits same.page s)
+    c.args.ends.items c.carry_out.result.ends.items left
 
 pub returns-in-Ok-clause-serve : goal.returns-in-Ok-clause-serve
 returns-in-Ok-clause-serve g c = λ plan asks verb.
@@ -186,8 +190,8 @@ returns-in-Ok-clause-serve g c = λ plan asks verb.
     let left = leaves_by g.D.Disk.model g.S.Source.left g.S.Source.faults g.K.Sink.written g.K.Sink.faults
     c.in-Ok.plan.command Serve c.in-Ok.plan (record { a = c.args.a; b = c.args.b }) c.args.ends.items c.carry_out.result
     (sym same.command ∙ verb) c.carry_out.ensures.leaves in
-    serves_same g.D.Disk.model g.S.Source.left g.K.Sink.written plan c.in-Ok.plan c.args.a c.carry_out.result.a c.args.b
-    c.args.ends.items c.carry_out.result.ends.items same.commits same.page left
+    serves_same g.D.Disk.model (record { a = c.args.a; b = c.args.b }) (disks_of c.carry_out.result) g.S.Source.left
+    g.K.Sink.written plan c.in-Ok.plan c.args.ends.items c.carry_out.result.ends.items same.commits same.page left
 
 pub returns-in-Ok-clause-bulk : goal.returns-in-Ok-clause-bulk
 returns-in-Ok-clause-bulk g c = λ plan asks verb.

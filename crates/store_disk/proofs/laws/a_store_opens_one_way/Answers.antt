@@ -1,29 +1,26 @@
-use Rattle.std.proofs.Common.{[]}
-use Rattle.journal_core.specs.Records.{header}
-use Rattle.store_disk.proofs.OneWay.{damaged-header, one-history, one-place, opens-or-damaged}
+use Rattle.store_disk.proofs.Damaged.{not-both, one-place, some-open}
+use Rattle.store_disk.proofs.OnePair.{one-history}
 use Rattle.store_disk.proofs.laws.a_store_opens_one_way.Goals as goal
 
 pub returns-clause-one_history : goal.returns-clause-one_history
 returns-clause-one_history c =
-    let l = c.a_log_reads_one_way.ensures in
-    one-history l.one_change (c.bytes_open_one_way.ensures.one_list header)
-    (l.one_list header []) (l.one_place header []) (l.not_both header [])
+    one-history c.a_log_reads_one_way.ensures.one_change c.a_base_reads_one_way.ensures.one_entry
+    c.a_pair_opens_one_way.ensures.one_history
 
 pub returns-clause-one_place : goal.returns-clause-one_place
 returns-clause-one_place c =
-    let l = c.a_log_reads_one_way.ensures in
-    one-place l.one_change (c.bytes_open_one_way.ensures.one_list header)
-    (l.one_list header []) (l.one_place header []) (l.not_both header [])
+    let base = c.a_base_reads_one_way.ensures in
+    let log = c.a_log_reads_one_way.ensures in
+    one-place base.one_base base.not_both base.one_place log.one_list log.one_place log.not_both
 
 pub returns-clause-not_both : goal.returns-clause-not_both
 returns-clause-not_both c =
-    let l = c.a_log_reads_one_way.ensures in
-    opens-or-damaged l.one_change (c.bytes_open_one_way.ensures.one_list header)
-    (l.one_list header []) (l.one_place header []) (l.not_both header [])
+    let base = c.a_base_reads_one_way.ensures in
+    let log = c.a_log_reads_one_way.ensures in
+    not-both base.one_base base.not_both base.one_place log.one_list log.one_place log.not_both
 
-pub returns-clause-header : goal.returns-clause-header
-returns-clause-header c = λ h bytes o. c.bytes_open_one_way.ensures.header _ bytes o.opens
+pub returns-clause-opens : goal.returns-clause-opens
+returns-clause-opens c = λ h g a b o. some-open a b o.opens.read o.opens.picks
 
-pub returns-clause-damaged_header : goal.returns-clause-damaged_header
-returns-clause-damaged_header c =
-    damaged-header c.bytes_open_one_way.ensures.header c.bytes_open_one_way.ensures.broken_header
+pub returns-clause-damaged : goal.returns-clause-damaged
+returns-clause-damaged c = λ at a b d. some-open a b d.read d.picks

@@ -1,4 +1,4 @@
-use Rattle.store_disk.proofs.TwoDisks.{begins, ends, meanwhile, next-base, next-commit}
+use Rattle.store_disk.proofs.OnDisks.{begins, ends, meanwhile, next-base, next-commit}
 use Rattle.store_disk.proofs.laws.copies_go_on.Goals as goal
 
 pub returns-clause-begins : goal.returns-clause-begins

@@ -9,7 +9,7 @@ use Rattle.store_disk.proofs.payload.change_from.Goals as goal
 pub returns-in_err-record-in-Register-clause-fault : goal.returns-in_err-record-in-Register-clause-fault
 returns-in_err-record-in-Register-clause-fault c =
     refused-text c.one_answer.ensures
-    (told (logged.change_of c.args.wire.now)) c.stored_format.result c.deref.result.now
+    (IsValid (told (logged.change_of c.args.wire.now))) c.stored_format.result c.deref.result.now
     c.in_err-record-in-Register.field-0.0 c.from_residual.result c.from_residual.ensures.1
     c.in_err-record-in-Register.ensures.fault
     (λ v. rw (c.stored_format.ensures, c.deref.ensures.value)
@@ -17,7 +17,8 @@ returns-in_err-record-in-Register-clause-fault c =
 
 pub returns-in_err-record-in-Revise-clause-fault : goal.returns-in_err-record-in-Revise-clause-fault
 returns-in_err-record-in-Revise-clause-fault c =
-    refused-text c.one_answer.ensures (told (logged.change_of c.args.wire.now)) c.stored_format-in-Revise.result
+    refused-text c.one_answer.ensures (IsValid (told (logged.change_of c.args.wire.now)))
+    c.stored_format-in-Revise.result
     c.deref-in-Revise.result.now c.in_err-record-in-Revise.field-0.0 c.from_residual-in_err-record-in-Revise.result
     c.from_residual-in_err-record-in-Revise.ensures.1 c.in_err-record-in-Revise.ensures.fault
     (λ v. rw (c.stored_format-in-Revise.ensures, c.deref-in-Revise.ensures.value)

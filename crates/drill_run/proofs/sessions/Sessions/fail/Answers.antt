@@ -1,4 +1,6 @@
 use Rattle.std.proofs.Common.{ap, refl, Some}
+use Rattle.disk_edge.specs.Medium.{Medium}
+use Rattle.disk_pair.specs.Term.{disk_a, disk_b}
 use Rattle.drill_run.specs.Dialogue.{set_text}
 use Rattle.drill_run.specs.Lines as lines
 use Rattle.drill_run.specs.Turns.{WorldTerm}
@@ -11,6 +13,9 @@ returns c = λ line reads.
     quiet-by c.args.self.now c.say.new.self c.args.world c.fail_once.new.self line (Some (lines.Fail c.args.call))
     set_text c.requires.ready c.requires.empty reads (refl, refl, refl) c.fail_once.ensures.stands
     (ap (λ (w : WorldTerm). w.memory) c.fail_once.ensures.only)
-    (λ t h. tally-fail t c.args.world.journal.disk.failures c.fail_once.new.self.journal.disk.failures h
-    c.fail_once.ensures.bound (ap (λ (w : WorldTerm). w.journal.disk.failures.count) c.fail_once.ensures.only))
+    (λ t h.
+    let old = c.args.world.pair in
+    let new = c.fail_once.new.self.pair in
+    tally-fail t (disk_a old).failures (disk_b old).failures (disk_a new).failures (disk_b new).failures h
+    c.fail_once.ensures.bound c.fail_once.ensures.count (ap (λ (d : Medium). d.failures) c.fail_once.ensures.b))
     c.say.ensures.responders c.say.ensures.settings c.say.result c.say.ensures.ok

@@ -2,6 +2,7 @@ use Rattle.std.proofs.Common.{◌∙◌, ap, length, subst, sym}
 use Rattle.std.specs.List.{AllByRecursion}
 use Rattle.std.specs.Prelude.{Vec}
 use Rattle.std.specs.declared.alloc.Global.{Global}
+use Rattle.disk_pair.specs.Term.{disk_a, disk_b}
 use Rattle.drill_core.specs.Worlds.{left_on}
 use Rattle.session_run.specs.declared.respond.Responder.{Responder}
 use Rattle.drill_run.specs.Turns.{IsSessionOf}
@@ -13,7 +14,8 @@ pub returns-in-Ok : goal.returns-in-Ok
 returns-in-Ok c = λ line reads.
     let left = c.say_version.ensures.responders in
     opened-by c.args.self.now c.say_version.new.self c.args.world line c.args.image c.requires.ready c.requires.empty
-    reads c.in-Ok.world (left_on c.args.world.journal.disk c.args.image) c.in-Ok.version c.in-Ok.ensures.opens
+    reads c.in-Ok.world (left_on (disk_a c.args.world.pair) c.args.image)
+    (left_on (disk_b c.args.world.pair) c.args.image) c.in-Ok.version c.in-Ok.ensures.opens
     c.in-Ok.ensures.no_failures
     (ap (λ (l : Vec Responder Global). length l.items) left ∙ c.forget.ensures.number)
     (subst (λ (l : Vec Responder Global). AllByRecursion (IsSessionOf c.args.self.now.settings) l.items) (sym left)

@@ -1,4 +1,5 @@
 use Rattle.std.proofs.Common.{ap, refl, Some}
+use Rattle.disk_pair.specs.Term.{disk_a, disk_b}
 use Rattle.drill_run.specs.Dialogue.{set_text}
 use Rattle.drill_run.specs.Lines as lines
 use Rattle.drill_run.specs.Turns.{WorldTerm}
@@ -11,5 +12,5 @@ returns c = λ line reads.
     quiet-by c.args.self.now c.say.new.self c.args.world c.stop_after.new.self line (Some (lines.Stop c.args.calls))
     set_text c.requires.ready c.requires.empty reads (refl, refl, refl) c.stop_after.ensures.stands
     (ap (λ (w : WorldTerm). w.memory) c.stop_after.ensures.only)
-    (λ t h. tally-stop t c.stop_after.new.self.journal.disk.failures) c.say.ensures.responders c.say.ensures.settings
-    c.say.result c.say.ensures.ok
+    (λ t h. tally-stop t (disk_a c.stop_after.new.self.pair).failures (disk_b c.stop_after.new.self.pair).failures)
+    c.say.ensures.responders c.say.ensures.settings c.say.result c.say.ensures.ok

@@ -1,47 +1,53 @@
-use Rattle.journal_core.specs.LookLaws.{narrows_twice}
-use Rattle.std.proofs.Common.{sym, ◌∙◌}
 use Rattle.store_core.specs.declared.store.Store.{Store as Memory}
-use Rattle.store_disk.proofs.Loads.{at-first, damaged-at, is-second, opened-store, synced}
+use Rattle.store_disk.proofs.Results.{damaged-at}
+use Rattle.store_disk.proofs.Stores.{damages, narrows-first, narrows-second, opened-store}
 use Rattle.store_disk.proofs.store.Store.load.Goals as goal
 
 pub returns-in-Ok-memory_of-clause-opened : goal.returns-in-Ok-memory_of-clause-opened
 returns-in-Ok-memory_of-clause-opened g c =
-    let d = g.D.Disk.model in
-    opened-store d c.in-Ok-memory_of.memory c.args.commits c.args.disks.a c.args.disks.b
-    c.in-Ok.journal c.memory_of.new.journal c.in-Ok-memory_of.ensures.loaded c.in-Ok.ensures.narrows.same
-    c.memory_of.ensures.looks.narrows.same (at-first d (d.content c.args.disks.a) c.in-Ok.journal
-    (sym c.place.ensures ∙ c.if-place-ne-FIRST_RECORD.false) c.in-Ok.ensures.ok) c.memory_of.ensures.settled
+    let picked = c.in-Ok.picked in
+    let made = c.memory_of.ensures in
+    rw c.new.ensures
+    (opened-store g.D.Disk.model c.rebases_keep.ensures.stays c.args.disks.a c.args.disks.b picked.second picked.journal
+    c.memory_of.new.journal picked.other c.in-Ok.ensures.narrows_a c.in-Ok.ensures.narrows_b c.in-Ok-memory_of.memory
+    c.args.commits c.in-Ok-memory_of.ensures.loaded made.looks made.header made.settled c.in-Ok.ensures.other
+    c.in-Ok.ensures.picks)
 
-pub returns-in-Ok-memory_of-clause-narrows : goal.returns-in-Ok-memory_of-clause-narrows
-returns-in-Ok-memory_of-clause-narrows g c =
-    let d = g.D.Disk.model in
-    narrows_twice d g.met.D.Disk.parts c.args.disks.a
-    c.in-Ok.journal.disk c.memory_of.new.journal.disk c.in-Ok.ensures.narrows c.memory_of.ensures.looks.narrows
+pub returns-in-Ok-memory_of-clause-narrows_a : goal.returns-in-Ok-memory_of-clause-narrows_a
+returns-in-Ok-memory_of-clause-narrows_a g c =
+    let picked = c.in-Ok.picked in
+    rw c.new.ensures
+    (narrows-first g.D.Disk.model c.args.disks.a c.args.disks.b picked.second picked.journal.disk picked.other
+    c.in-Ok.ensures.narrows_a c.in-Ok.ensures.narrows_b g.met.D.Disk.parts c.memory_of.new.journal.disk
+    c.memory_of.ensures.looks)
 
-pub returns-in-Err-memory_of-clause-narrows : goal.returns-in-Err-memory_of-clause-narrows
-returns-in-Err-memory_of-clause-narrows g c =
-    let d = g.D.Disk.model in
-    rw c.into_disk.ensures
-    (narrows_twice d g.met.D.Disk.parts c.args.disks.a
-    c.in-Ok.journal.disk c.memory_of.new.journal.disk c.in-Ok.ensures.narrows c.memory_of.ensures.looks.narrows)
+pub returns-in-Ok-memory_of-clause-narrows_b : goal.returns-in-Ok-memory_of-clause-narrows_b
+returns-in-Ok-memory_of-clause-narrows_b g c =
+    let picked = c.in-Ok.picked in
+    rw c.new.ensures
+    (narrows-second g.D.Disk.model c.args.disks.a c.args.disks.b picked.second picked.journal.disk picked.other
+    c.in-Ok.ensures.narrows_a c.in-Ok.ensures.narrows_b g.met.D.Disk.parts c.memory_of.new.journal.disk
+    c.memory_of.ensures.looks)
 
-pub returns-in-Ok-memory_of-clause-synced : goal.returns-in-Ok-memory_of-clause-synced
-returns-in-Ok-memory_of-clause-synced g c =
-    let d = g.D.Disk.model in
-    synced d c.args.disks.a c.in-Ok.journal c.memory_of.new.journal c.in-Ok.ensures.narrows.same
-    c.memory_of.ensures.looks (at-first d (d.content c.args.disks.a) c.in-Ok.journal
-    (sym c.place.ensures ∙ c.if-place-ne-FIRST_RECORD.false) c.in-Ok.ensures.ok)
+pub returns-in-Err-memory_of-clause-narrows_a : goal.returns-in-Err-memory_of-clause-narrows_a
+returns-in-Err-memory_of-clause-narrows_a g c =
+    let picked = c.in-Ok.picked in
+    rw (c.disks_of.ensures.a, c.into_disk.ensures)
+    (narrows-first g.D.Disk.model c.args.disks.a c.args.disks.b picked.second picked.journal.disk picked.other
+    c.in-Ok.ensures.narrows_a c.in-Ok.ensures.narrows_b g.met.D.Disk.parts c.memory_of.new.journal.disk
+    c.memory_of.ensures.looks)
 
-pub returns-then-place-ne-FIRST_RECORD-clause-not_a_store : goal.returns-then-place-ne-FIRST_RECORD-clause-not_a_store
-returns-then-place-ne-FIRST_RECORD-clause-not_a_store g c is =
-    let d = g.D.Disk.model in
-    is-second d (d.content c.args.disks.a) c.in-Ok.journal
-    (λ place. c.if-place-ne-FIRST_RECORD.true (c.place.ensures ∙ place)) c.in-Ok.ensures.narrows.same c.in-Ok.ensures.ok
+pub returns-in-Err-memory_of-clause-narrows_b : goal.returns-in-Err-memory_of-clause-narrows_b
+returns-in-Err-memory_of-clause-narrows_b g c =
+    let picked = c.in-Ok.picked in
+    rw (c.disks_of.ensures.b, c.into_disk.ensures)
+    (narrows-second g.D.Disk.model c.args.disks.a c.args.disks.b picked.second picked.journal.disk picked.other
+    c.in-Ok.ensures.narrows_a c.in-Ok.ensures.narrows_b g.met.D.Disk.parts c.memory_of.new.journal.disk
+    c.memory_of.ensures.looks)
 
 pub returns-in-Err-memory_of-clause-damaged : goal.returns-in-Err-memory_of-clause-damaged
-returns-in-Err-memory_of-clause-damaged g c at is l told =
-    let d = g.D.Disk.model in
-    let reads = at-first d (d.content c.args.disks.a) c.in-Ok.journal
-    (sym c.place.ensures ∙ c.if-place-ne-FIRST_RECORD.false) c.in-Ok.ensures.ok l told in
-    damaged-at Memory c.in-Err-memory_of.fault at _ is c.in-Err-memory_of.ensures.damaged reads l
-    (c.in-Ok.ensures.narrows.same ∙ told)
+returns-in-Err-memory_of-clause-damaged g c at is l told k told_b =
+    let picked = c.in-Ok.picked in
+    damages g.D.Disk.model c.args.disks.a c.args.disks.b picked.second picked.journal.disk picked.other
+    c.in-Ok.ensures.narrows_a c.in-Ok.ensures.narrows_b c.in-Ok.ensures.picks at
+    (damaged-at Memory c.in-Err-memory_of.fault at _ is c.in-Err-memory_of.ensures.damaged) l told k told_b

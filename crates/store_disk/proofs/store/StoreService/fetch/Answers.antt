@@ -1,7 +1,9 @@
 use Rattle.std.proofs.Common.{refl, sym}
 use Rattle.store_core.specs.Records.{founds}
+use Rattle.store_core.specs.Stored.{alone, served}
 use Rattle.store_machine.specs.declared.machine.Event.TheVariants.{Fetch}
 use Rattle.store_machine.specs.declared.machine.Reply.TheVariants.{Page}
+use Rattle.store_disk.proofs.Lifts.{at-alone}
 use Rattle.store_disk.proofs.Rows.{fetch-lifts, lifted-call, still-ready}
 use Rattle.store_disk.proofs.store.StoreService.fetch.Goals as goal
 
@@ -10,18 +12,23 @@ invariant_of-self g c =
     still-ready (Fetch c.args.pin.now.slot c.args.want.now c.args.from c.args.limit)
     (λ last. Page (founds c.fetch.new.page.records) last) c.fetch.result
     (fetch-lifts c.args.pin.now.slot c.args.want.now c.args.from c.args.limit c.fetch.new.page.records c.fetch.result
-    c.fetch.ensures.worn.1) c.self.inside.memory c.fetch.new.self c.self.inside.journal c.fetch.ensures.call
+    c.fetch.ensures.worn.1) c.self.inside.memory c.fetch.new.self c.self.inside.pair c.fetch.ensures.call
     c.self.invariant
 
 pub returns-clause-call : goal.returns-clause-call
 returns-clause-call g c =
     let d = g.D.Disk.model in
     rw (sym c.self.view_is)
-    (λ s h. lifted-call d g.met.D.Disk.only_now c.laws.ensures _
-    c.fetch.new.self s h (Fetch c.args.pin.now.slot c.args.want.now c.args.from c.args.limit)
-    (λ last. Page (founds c.fetch.new.page.records) last) refl (λ no. no) c.fetch.result
+    (λ s h. lifted-call d g.met.D.Disk.only_now c.laws.ensures.sound c.laws.ensures.heads _
+    c.laws.ensures.leaves c.fetch.new.self s h (Fetch c.args.pin.now.slot c.args.want.now c.args.from c.args.limit)
+    (λ last. Page (founds c.fetch.new.page.records) last) refl c.fetch.result
     (fetch-lifts c.args.pin.now.slot c.args.want.now c.args.from c.args.limit c.fetch.new.page.records c.fetch.result
-    c.fetch.ensures.worn.1) (c.fetch.ensures.call s h.memory))
+    c.fetch.ensures.worn.1) c.fetch.ensures.call)
 
 pub returns-clause-held : goal.returns-clause-held
 returns-clause-held g c = rw (sym c.self.view_is) c.fetch.ensures.held
+
+pub returns-clause-steps : goal.returns-clause-steps
+returns-clause-steps g c = λ s h.
+    let r = c.fetch.ensures.steps (alone (served s)) (at-alone c.fetch.new.self (served s) h.memory.stands) in
+    record { entries = r.entries; count = r.count; apart = r.apart; each = r.each }

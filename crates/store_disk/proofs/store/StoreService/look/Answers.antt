@@ -9,15 +9,15 @@ pub invariant_of-self : goal.invariant_of-self
 invariant_of-self g c =
     still-ready (Look c.args.id) (λ l. Looked (looked l)) c.look.result
     (look-lifts c.args.id c.look.result c.look.ensures.worn.1) c.self.inside.memory c.look.new.self
-    c.self.inside.journal c.look.ensures.call c.self.invariant
+    c.self.inside.pair c.look.ensures.call c.self.invariant
 
 pub returns-clause-call : goal.returns-clause-call
 returns-clause-call g c =
     let d = g.D.Disk.model in
     rw (sym c.self.view_is)
-    (λ s h. lifted-call d g.met.D.Disk.only_now c.laws.ensures _
-    c.look.new.self s h (Look c.args.id) (λ l. Looked (looked l)) refl (λ no. no) c.look.result
-    (look-lifts c.args.id c.look.result c.look.ensures.worn.1) (c.look.ensures.call s h.memory))
+    (λ s h. lifted-call d g.met.D.Disk.only_now c.laws.ensures.sound c.laws.ensures.heads _
+    c.laws.ensures.leaves c.look.new.self s h (Look c.args.id) (λ l. Looked (looked l)) refl c.look.result
+    (look-lifts c.args.id c.look.result c.look.ensures.worn.1) c.look.ensures.call)
 
 pub returns-clause-held : goal.returns-clause-held
 returns-clause-held g c = rw (sym c.self.view_is) c.look.ensures.held

@@ -8,15 +8,15 @@ pub invariant_of-self : goal.invariant_of-self
 invariant_of-self g c =
     still-ready Pin pin_reply c.pin.result
     (pin-lifts c.pin.result c.pin.ensures.worn.1 c.pin.ensures.memory) c.self.inside.memory c.pin.new.self
-    c.self.inside.journal c.pin.ensures.call c.self.invariant
+    c.self.inside.pair c.pin.ensures.call c.self.invariant
 
 pub returns-clause-call : goal.returns-clause-call
 returns-clause-call g c =
     let d = g.D.Disk.model in
     rw (sym c.self.view_is)
-    (λ s h. lifted-call d g.met.D.Disk.only_now c.laws.ensures _
-    c.pin.new.self s h Pin pin_reply refl (λ no. no) c.pin.result
-    (pin-lifts c.pin.result c.pin.ensures.worn.1 c.pin.ensures.memory) (c.pin.ensures.call s h.memory))
+    (λ s h. lifted-call d g.met.D.Disk.only_now c.laws.ensures.sound c.laws.ensures.heads _
+    c.laws.ensures.leaves c.pin.new.self s h Pin pin_reply refl c.pin.result
+    (pin-lifts c.pin.result c.pin.ensures.worn.1 c.pin.ensures.memory) c.pin.ensures.call)
 
 pub returns-clause-held : goal.returns-clause-held
 returns-clause-held g c = rw (sym c.self.view_is) c.pin.ensures.held

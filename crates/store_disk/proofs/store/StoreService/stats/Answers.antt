@@ -8,15 +8,16 @@ pub invariant_of-self : goal.invariant_of-self
 invariant_of-self g c =
     still-ready Stats (λ n. Counted n.version n.live n.withdrawn n.kept n.pins) c.stats.result
     (stats-lifts c.stats.result c.stats.ensures.worn.1 c.stats.ensures.memory) c.self.inside.memory c.stats.new.self
-    c.self.inside.journal c.stats.ensures.call c.self.invariant
+    c.self.inside.pair c.stats.ensures.call c.self.invariant
 
 pub returns-clause-call : goal.returns-clause-call
 returns-clause-call g c =
     let d = g.D.Disk.model in
     rw (sym c.self.view_is)
-    (λ s h. lifted-call d g.met.D.Disk.only_now c.laws.ensures _
-    c.stats.new.self s h Stats (λ n. Counted n.version n.live n.withdrawn n.kept n.pins) refl (λ no. no) c.stats.result
-    (stats-lifts c.stats.result c.stats.ensures.worn.1 c.stats.ensures.memory) (c.stats.ensures.call s h.memory))
+    (λ s h. lifted-call d g.met.D.Disk.only_now c.laws.ensures.sound c.laws.ensures.heads _
+    c.laws.ensures.leaves c.stats.new.self s h Stats (λ n. Counted n.version n.live n.withdrawn n.kept n.pins) refl
+    c.stats.result
+    (stats-lifts c.stats.result c.stats.ensures.worn.1 c.stats.ensures.memory) c.stats.ensures.call)
 
 pub returns-clause-held : goal.returns-clause-held
 returns-clause-held g c = rw (sym c.self.view_is) c.stats.ensures.held

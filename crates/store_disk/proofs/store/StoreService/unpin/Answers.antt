@@ -8,16 +8,16 @@ pub invariant_of-self : goal.invariant_of-self
 invariant_of-self g c =
     still-ready (Unpin c.args.pin.slot) (λ _. Unpinned) c.unpin.result
     (unpin-lifts c.args.pin.slot c.unpin.result c.unpin.ensures.worn.1 c.unpin.ensures.memory) c.self.inside.memory
-    c.unpin.new.self c.self.inside.journal c.unpin.ensures.call c.self.invariant
+    c.unpin.new.self c.self.inside.pair c.unpin.ensures.call c.self.invariant
 
 pub returns-clause-call : goal.returns-clause-call
 returns-clause-call g c =
     let d = g.D.Disk.model in
     rw (sym c.self.view_is)
-    (λ s h. lifted-call d g.met.D.Disk.only_now c.laws.ensures _
-    c.unpin.new.self s h (Unpin c.args.pin.slot) (λ _. Unpinned) refl (λ no. no) c.unpin.result
+    (λ s h. lifted-call d g.met.D.Disk.only_now c.laws.ensures.sound c.laws.ensures.heads _
+    c.laws.ensures.leaves c.unpin.new.self s h (Unpin c.args.pin.slot) (λ _. Unpinned) refl c.unpin.result
     (unpin-lifts c.args.pin.slot c.unpin.result c.unpin.ensures.worn.1 c.unpin.ensures.memory)
-    (c.unpin.ensures.call s h.memory))
+    c.unpin.ensures.call)
 
 pub returns-clause-held : goal.returns-clause-held
 returns-clause-held g c = rw (sym c.self.view_is) c.unpin.ensures.held

@@ -1,6 +1,6 @@
 use Rattle.std.proofs.Common.{refl}
-use Rattle.store_disk.proofs.TwoDisks.{after-commit, after-start}
-use Rattle.store_disk.proofs.laws.what_two_disks_have_after.Goals as goal
+use Rattle.store_disk.proofs.OnDisks.{after-commit, after-start}
+use Rattle.store_disk.proofs.laws.what_disks_have_after.Goals as goal
 
 pub returns-clause-committed : goal.returns-clause-committed
 returns-clause-committed c = after-commit c.rebases_keep.ensures.grown

@@ -1,14 +1,13 @@
 -- What two disks have of a state: what a crash may show of it, and how a copy goes on.
-use Rattle.std.proofs.Common.{◌≡◌, ◌+◌, ◌++◌, ◌-◌, ◌<◌, ◌≤◌, ◌∙◌, ap, arith, get_or, inl, inr, length, length-append, List, [], ◌∷◌, map, MatchOption, nat_cmp, None, Option, option_map, refl, Some, subst, sym, take, ℕ}
+use Rattle.std.proofs.Common.{◌≡◌, ◌+◌, ◌++◌, ◌-◌, ◌<◌, ◌≤◌, ◌∙◌, ap, arith, get_or, inl, inr, length, length-append, List, [], ◌∷◌, map, MatchOption, None, Option, option_map, refl, Some, subst, sym, take, ℕ}
 use Rattle.std.proofs.lemmas.List.{drop_all, length-map, map-append, take-append-le, take_all, take_more}
-use Rattle.std.specs.FinMap.{empty as none, entries, len-empty, len-entries}
+use Rattle.std.specs.FinMap.{entries}
 use Rattle.disk_pair.specs.Gives.{empty_copy}
 use Rattle.disk_pair.specs.Term.{OfEachPair, Paired, next_header}
 use Rattle.disk_edge.specs.Disk.{DiskModel}
-use Rattle.disk_pair.specs.Stands.{StandsFor}
+use Rattle.disk_pair.specs.Stands.{StandsFor as StandsOnDisks}
 use Rattle.disk_pair.specs.Pairs.{History as Written, MayShow, PairOpens, PairOpensTo as MayOpen, State as PairState, with_base, with_commit}
-use Rattle.journal_core.specs.Fronts.{IsOpenAt, no_base, second_format}
-use Rattle.store_core.specs.Stored.{StoreTerm as Memory, empty}
+use Rattle.store_core.specs.Stored.{StoreTerm as Memory}
 use Rattle.store_machine.specs.History.{IsHistory, grown, head, rebase}
 use Rattle.store_machine.specs.Kept.{IsPast}
 use Rattle.store_machine.specs.Laws.{IsSound, RunsStaySound}
@@ -20,9 +19,9 @@ use Rattle.store_machine.specs.declared.machine.Change.{Change}
 use Rattle.store_machine.specs.declared.machine.Copying.{Copying}
 use Rattle.store_machine.specs.declared.machine.History.{History}
 use Rattle.store_machine.specs.declared.machine.State.{State}
-use Rattle.store_machine.specs.declared.machine.Status.{Status}
-use Rattle.store_disk.specs.Payloads.{payload, payloads}
-use Rattle.store_disk.specs.TwoDisks.{IsServing, PairDamages, PairOpensAfter, StandsForPair, base_payload, copy_so_far, history_of, lacking, on_pair, whole_copy}
+use Rattle.store_disk.specs.Loads.{OpensAfter, OpensTo}
+use Rattle.store_disk.specs.OnDisk.{IsServing, StandsFor, copy_so_far, lacking, on_pair, whole_copy}
+use Rattle.store_disk.specs.Payloads.{base_payload, history_of, payload, payloads}
 
 none-some : {X : Type 0} {x : X} → None ≡ Some x → ⊥
 none-some e = cc
@@ -164,45 +163,6 @@ after-start s =
       copy = Some (copy i);
     }
 
--- Examples. No bytes are no open disk
-none-open : (k : ℕ) → IsOpenAt k [] → k ≤ 0
-none-open k (inl o) = omega (arith, o.1)
-none-open k (inr o) = absurd (omega (arith, o.0))
-
--- a disk of format 2 of which the base has version 16,777,216, beside one that is not open
-abbrev late-bytes : List ℕ
-late-bytes = second_format ++ 0 ∷ 0 ∷ 0 ∷ 0 ∷ 0 ∷ 0 ∷ 0 ∷ 1 ∷ 0 ∷ 0 ∷ 0 ∷ 0 ∷ []
-
-late-is-damaged : PairDamages 12 late-bytes []
-late-is-damaged = record {
-  read = late-bytes;
-  picks = inl ((0, inr (omega arith, refl, refl), none-open), refl);
-  damages = inl (record {
-    header = record { generation = 0; base_version = 16777216; base_count = 0 };
-    is = inr (omega arith, refl, refl);
-    late = omega arith;
-    place = refl;
-  });
-}
-
--- a new store has no base and no commits
-fresh-on-pair : (commits : ℕ) → on_pair (empty commits) ≡ record {
-  now = record { header = no_base; base = []; commits = [] };
-  commit = None;
-  finish = None;
-  copy = None;
-}
-fresh-on-pair commits = ap (λ (b : List (ℕ × Status)). record {
-  now = history_of 0 (record { base = b; version = 0; commits = [] });
-  commit = None;
-  finish = None;
-  copy = None;
-}) (nothing (entries none) (sym (len-entries none) ∙ len-empty nat_cmp Status))
-  where
-    nothing : (es : List (ℕ × Status)) → length es ≡ 0 → es ≡ []
-    nothing [] e = refl
-    nothing (x ∷ xs) e = absurd (omega (arith, e))
-
 -- what may be recovered is a history that a store may have
 recovered-history : RunsStaySound → (s : State) (h : History) (g : ℕ) → Recovers s h g → IsSound s → IsHistory h
 recovered-history law s h g r sound = (law s (crashed s h g) (record {
@@ -240,19 +200,58 @@ recovered-few heads memory s h g (inr (inr (version, may, is, at))) m =
     let same = ap head is ∙ heads s.history version past.0 past.1 in
     omega (arith, same, m.stands.version, m.stands.within)
 
-pub pair-opens : RunsStaySound → RebasesKeepHeads → {D : Type 0} (model : DiskModel D) (pair : Paired D)
-    → ((t : PairState) → StandsFor model pair t → OfEachPair model pair (MayOpen (MayShow t)))
-    → (memory : Memory) (s : State) → StandsForPair model (record { memory = memory; pair = pair }) s
-    → OfEachPair model pair (PairOpensAfter s)
-pair-opens law heads model pair leaves memory s stands = λ l is m it x y i j.
-    let opens = leaves (on_pair s) stands.pair l is m it x y i j in
+-- what may be recovered of a state that is served is what bytes open to
+opens-recovered : RunsStaySound → RebasesKeepHeads → (memory : Memory) (s : State) → IsServing memory s
+    → (h : History) (g : ℕ) → Recovers s h g → (x y : List ℕ) → PairOpens (history_of g h) x y → OpensTo h g x y
+opens-recovered law heads memory s serving h g r x y opens = record {
+  history = recovered-history law s h g r serving.sound;
+  few = recovered-few heads memory s h g r serving;
+  opens = opens;
+}
+
+pub shown-after : RunsStaySound → RebasesKeepHeads → (memory : Memory) (s : State) → IsServing memory s
+    → (x y : List ℕ) → MayOpen (MayShow (on_pair s)) x y → OpensAfter s x y
+shown-after law heads memory s serving x y opens =
     let r = shown-recovered s opens.0 opens.1 in (
       r.0,
       r.1,
       r.2,
-      record {
-        history = recovered-history law s r.0 r.1 r.2 stands.memory.sound;
-        few = recovered-few heads memory s r.0 r.1 r.2 stands.memory;
-        opens = subst (λ (w : Written). PairOpens w x y) r.3 opens.2;
-      },
+      opens-recovered law heads memory s serving r.0 r.1 r.2 x y (subst (λ (w : Written). PairOpens w x y) r.3 opens.2),
     )
+
+-- a state with a commit in doubt that may be added
+abbrev doubting : State → Change → State
+doubting s c = record s { doubt = Some c; finish = None }
+
+doubting-serves : (memory : Memory) (s : State) (c : Change) → MayAdd s c → IsServing memory s
+    → IsServing memory (doubting s c)
+doubting-serves memory s c may h = record {
+  sound = record {
+    history = h.sound.history;
+    doubt = may;
+    slots = h.sound.slots;
+    pins = h.sound.pins;
+    bases = record { base = h.sound.bases.base; copy = h.sound.bases.copy; finish = tt };
+    kept = h.sound.kept;
+    made = h.sound.made;
+  };
+  serves = h.serves;
+  stands = h.stands;
+}
+
+-- with a commit that may be added, bytes open to the history that it makes
+pub shown-with : RunsStaySound → RebasesKeepHeads → (memory : Memory) (s : State) → IsServing memory s
+    → (c : Change) → MayAdd s c → (x y : List ℕ)
+    → PairOpens (with_commit (history_of s.generation (on_disk s)) (payload c)) x y
+    → OpensTo (grown (on_disk s) (c ∷ [])) s.generation x y
+shown-with law heads memory s serving c may x y opens =
+    opens-recovered law heads memory (doubting s c) (doubting-serves memory s c may serving)
+    (grown (on_disk s) (c ∷ [])) s.generation (inr (inl (c, refl, refl, refl))) x y
+    (subst (λ (w : Written). PairOpens w x y) (grown-written s.generation (on_disk s) c) opens)
+
+pub standing-opens : RunsStaySound → RebasesKeepHeads → {D : Type 0} (model : DiskModel D) (pair : Paired D)
+    → ((t : PairState) → StandsOnDisks model pair t → OfEachPair model pair (MayOpen (MayShow t)))
+    → (memory : Memory) (s : State) → StandsFor model (record { memory = memory; pair = pair }) s
+    → OfEachPair model pair (OpensAfter s)
+standing-opens law heads model pair leaves memory s stands = λ l is m it x y i j.
+    shown-after law heads memory s stands.memory x y (leaves (on_pair s) (stands.pair l is m it) l is m it x y i j)
