@@ -41,8 +41,8 @@ module _ {D : Type 0} where
   abbrev pub Tells : Kept D → Step → Type 0
   Tells k e = told_of k ≡ (e.event, e.reply) ∷ []
 
--- The store has made these steps since it was given, from a state as an opening leaves it for which it stood: they are a stretch
--- of the store on its disks.
+-- The store has made these steps since it was given, from a state for which it stood, as an opening leaves it: they are
+-- a stretch of the store on its disks.
 pub record KeptFor {D : Type 0} (model : DiskModel D) (origin : Origin D) (kept : Kept D) (history : List Step) : Type 0
   where
     pub opened : (commits : ℕ) × IsOpened commits origin.state

@@ -57,7 +57,8 @@ module _ {D : Type 0} where
     pub within : length (known p).seen ≤ (known p).turns
 
 module _ {D : Type 0} (model : DiskModel D) where
-  -- the first pass: the history begins with the store that was given, at a state as an opening leaves it for which it stood
+  -- the first pass: the history begins with the store that was given, at a state for which it stood, as an opening
+  -- leaves it
   pub record Begins (store : StoreTerm D) (p : HallPass D) : Type 0 where
     pub origin : Origin D
     pub of : IsFrom origin p

@@ -26,6 +26,10 @@ use Rattle.turn_gate.specs.contracts.gate.Gate as gate
 use Rattle.turn_gate.specs.contracts.gate.Pass as gate_pass
 use Rattle.turn_gate.specs.declared.stands.Stands as stands
 use Rattle.disk_edge.specs.declared.disk.Disk.{Ghosts}
+use Rattle.disk_pair.specs.contracts.other.Other.{the_row as other_row}
+use Rattle.disk_pair.specs.contracts.pair.Pair.{the_row as pair_row}
+use Rattle.compact_core.specs.contracts.carry.Carry.{the_row as carry_row}
+use Rattle.journal_core.specs.contracts.journal.Journal.{the_row as journal_row}
 use Rattle.record_versions.specs.contracts.chains.Chains.{the_row as chains_row}
 use Rattle.screen_index.specs.contracts.index.ScreenIndex.{the_row as index_row}
 use Rattle.store_core.specs.contracts.kept.KeptEntries.{the_row as entries_row}
@@ -43,10 +47,10 @@ use Rattle.store_machine.specs.contracts.machine.Step.{the_row as step_row}
 use Rattle.serve_ends.specs.contracts.slot.Slot.{the_row as slot_row}
 
 record-send : IsSend record_row
-record-send = search (sendable, crosses) depth 40
+record-send = search (sendable, crosses) depth 40 fits 20000
 
 record-sync : IsSync record_row
-record-sync = search (sendable, crosses) depth 40
+record-sync = search (sendable, crosses) depth 40 fits 20000
 
 index-send : IsSend index_row
 index-send = search (sendable, crosses) depth 40
@@ -64,8 +68,27 @@ entries-send =
 memory-send : IsSend memory_row
 memory-send = let e = entries-send in search (sendable, crosses) depth 40
 
+journal-send : (D : RattleType) (g : Ghosts D.Denot) → IsSend D → IsSend (journal_row D g)
+journal-send D g d = search (sendable, crosses) depth 40
+
+carry-send : (D : RattleType) (g : Ghosts D.Denot) → IsSend D → IsSend (carry_row D g)
+carry-send D g d = search (sendable, crosses) depth 40
+
+-- the disk beside the current one
+other-send : (D : RattleType) (g : Ghosts D.Denot) → IsSend D → IsSend (other_row D g)
+other-send D g d = let c = carry-send D g d in search (sendable, crosses) depth 40
+
+pair-send : (D : RattleType) (g : Ghosts D.Denot) → IsSend D → IsSend (pair_row D g)
+pair-send D g d =
+    let j = journal-send D g d in
+    let o = other-send D g d in
+    search (sendable, crosses) depth 40
+
 pub store-send : (D : RattleType) (g : Ghosts D.Denot) → IsSend D → IsSend (store_row D g)
-store-send D g d = let m = memory-send in search (sendable, crosses) depth 40
+store-send D g d =
+    let m = memory-send in
+    let p = pair-send D g d in
+    search (sendable, crosses) depth 40
 
 pub kept-send : (D : RattleType) (g : Ghosts D.Denot) → IsSend D → IsSend (kept_row D g)
 kept-send D g d = let s = store-send D g d in search (sendable, crosses) depth 40
