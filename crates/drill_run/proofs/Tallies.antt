@@ -30,13 +30,11 @@ not_above (Some m) None n h k = absurd h
 not_above (Some m) (Some l) n h k = omega (arith, h, k)
 
 none_above : (a b : Option ℕ) → NotAbove a b → a ≡ Some 0 → b ≡ Some 0
-none_above None b h e = absurd (none e)
-  where
-    none : {x : ℕ} → None ≡ Some x → ⊥
-    none k = cc k
+none_above None b h e = cc e
 none_above (Some m) None h e = absurd h
 none_above (Some m) (Some l) h e =
-    let k : m ≡ 0 = cc in let zero : l ≡ 0 = omega (arith, h, k) in ap Some zero
+    let none : m ≡ 0 = cc e in
+    ap Some (omega (arith, h, none))
 
 one_above : (a b : Option ℕ) (n : ℕ) → IfSome a (λ m. IsSomeAnd b (λ l. l ≤ m + 1)) → IsSomeAnd a (λ m. m ≤ n)
     → IsSomeAnd b (λ m. m ≤ n + 1)
