@@ -9,7 +9,7 @@ mod tests;
 
 use crate::files::script_ends;
 use chem_shell::{End, Outcome, Plan, PlanFault, Verb, chemdb, plan, status, word_fault};
-use disk_edge::FileDisk;
+use disk_edge::{Disk, FileDisk};
 use io_edge::{StdSink, StdSource};
 use std::alloc::{AllocError, Global};
 use std::env;
@@ -118,7 +118,8 @@ where
 }
 
 /// The disks of the store that the words name: its file, which `init` makes where it is not there, and the file of its
-/// name with `.2` appended, which is made where it is not there.
+/// name with `.2` appended, which is made where it is not there. The second is opened or made only beside a first that
+/// could be opened.
 fn disks<R: Files<File = File>>(
     rt: &R,
     alloc: Global,
@@ -128,8 +129,11 @@ fn disks<R: Files<File = File>>(
         return Ok((FileDisk::none(), FileDisk::none()));
     };
     let second = format!(in alloc; "{path}.2")?;
-    let a = FileDisk::at(rt, path, plan.command == Verb::Init);
-    let b = FileDisk::at(rt, second.as_str(), true);
+    let mut a = FileDisk::at(rt, path, plan.command == Verb::Init);
+    let b = match a.len() {
+        Ok(_) => FileDisk::at(rt, second.as_str(), true),
+        Err(_) => FileDisk::none(),
+    };
     Ok((a, b))
 }
 

@@ -206,11 +206,13 @@ fn each_call_of_the_disk_fails_in_turn(rt: HostRuntime) -> Result<(), Fail> {
 }
 
 #[test]
-fn a_store_in_a_file(rt: HostRuntime) -> Result<(), Fail> {
+fn a_store_in_two_files(rt: HostRuntime) -> Result<(), Fail> {
     let alloc = rt.alloc();
     let path = "chem_rows_test.store";
+    let second = "chem_rows_test.store.2";
     let _ = fs::remove_file(&rt, path);
-    // the command, whether it makes the file, the script, the status, and what was put
+    let _ = fs::remove_file(&rt, second);
+    // the command, whether it makes the files, the script, the status, and what was put
     let rows = [
         ("run", false, "stats\n", 5u8, ""),
         ("init", true, "", 0, ""),
@@ -225,13 +227,18 @@ fn a_store_in_a_file(rt: HostRuntime) -> Result<(), Fail> {
         ("init", true, "", 10, ""),
     ];
     for (command, create, script, status, put) in rows {
-        let disks = (FileDisk::at(&rt, path, create), FileDisk::none());
+        let disks = (
+            FileDisk::at(&rt, path, create),
+            FileDisk::at(&rt, second, create),
+        );
         let words = [command, path];
         let answer = call_on(&rt, alloc, &words, script.as_bytes(), PLAIN, disks)?;
         assert_eq!(rt; answer.status, status, "at {command} {script:?}");
         assert_eq!(rt; put_by(&answer), put.as_bytes(), "at {command} {script:?}");
     }
     assert_eq!(rt; fs::read(&rt, path)?.as_slice(), ONE_COMMIT);
+    assert_eq!(rt; fs::read(&rt, second)?.len(), 0);
     fs::remove_file(&rt, path)?;
+    fs::remove_file(&rt, second)?;
     Ok(())
 }
