@@ -44,7 +44,7 @@ returns-in-Ok-served g c = λ disks read_a read_b.
     let causes = end_causes g.S.Source g.K.Sink c.args.plan.now c.args.ends.items r.ends.items serving.count
     (λ i d less. (_, serving.each i d less)) in
     served_done g.D.Disk.model g.S.Source.left g.S.Source.faults g.K.Sink.written g.K.Sink.faults c.args.plan.now Serve
-    disks c.args.ends.items r c.requires.verb 
+    disks c.args.ends.items r c.requires.verb
     (inr (subst (λ x. ServesOn d g.S.Source.left g.K.Sink.written c.args.plan.now disks x c.args.ends.items r.ends.items)
     (sym c.served.ensures.disks) on)) causes.0 causes.1
     (c.served.ensures.status ∙ ap (λ v. first_fault (map (λ end. end.status) v.items)) (sym c.served.ensures.ends))
