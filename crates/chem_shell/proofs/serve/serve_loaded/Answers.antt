@@ -35,9 +35,10 @@ returns-in-Ok-served g c = λ disks read_a read_b.
     (subst (λ (settings : Settings). Serving g.S.Source g.K.Sink settings c.in-Ok.pass new c.args.ends.items
     c.serve_ends-ends.result.0.items) c.settings.ensures given) in
     let o = c.requires.standing in
+    let here = g.met.D.Disk g.world.𝓛 g.world.𝓜 g.world.𝓡 ((λ s x. x), (λ x. x), (λ x. x), λ x. x) in
     let on = serves_on d g.S.Source g.K.Sink c.replies_tell.ensures.commits c.runs_stay_sound.ensures
     c.rebases_keep.ensures.grown c.rebases_keep.ensures.stays c.services_are_true.ensures
-    g.met.D.Disk.content_is_image c.args.plan.now disks c.args.store c.a_standing_store_opens.ensures o.0 o.1 o.2 read_a
+    here.content_is_image c.args.plan.now disks c.args.store c.a_standing_store_opens.ensures o.0 o.1 o.2 read_a
     read_b c.in-Ok.pass c.in-Ok.ensures.begins c.close-store.result c.a_standing_store_opens-in-Ok.ensures new
     c.into_disks-disks.result c.args.ends.items r.ends.items c.close-store.ensures serving c.into_disks-disks.ensures.a
     c.into_disks-disks.ensures.b in
