@@ -11,5 +11,6 @@ pub mod Crashes
 pub mod Unfailing
 pub mod Desks
 pub mod Done
+pub mod OneEnd
 pub mod Opened
 pub mod Empty

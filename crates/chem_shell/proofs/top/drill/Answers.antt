@@ -1,22 +1,26 @@
-use Rattle.std.proofs.Common.{◌∙◌, ap, map, rules, sym}
+use Rattle.std.proofs.Common.{◌∙◌, ap, map, sym}
+use Rattle.chem_shell.specs.Drills.{ServesDrill}
 use Rattle.chem_shell.specs.Status.{first_fault}
 use Rattle.chem_shell.specs.declared.request.Verb.TheVariants.{Drill}
-use Rattle.chem_shell.proofs.Ends.{leaves_by}
+use Rattle.chem_shell.proofs.OneEnd.{one_done, one_zip}
 use Rattle.chem_shell.proofs.top.drill.Goals as goal
 
 pub returns : goal.returns
-returns g c = record {
-  leaves = leaves_by g.D.Disk.model g.S.Source.left g.S.Source.faults g.K.Sink.written g.K.Sink.faults Drill
-      c.args.plan.now.command c.args.plan.now c.args.disks c.args.ends.items c.served.result (sym c.requires.command)
-      (c.served.ensures.disks, search rules);
-  causes = record {
-    disk_fault = λ e. absurd (search rules);
-    not_a_store = λ e. absurd (search rules);
-    damaged = λ e. absurd (search rules);
-    undamaged = λ _. c.served.ensures.place;
-  };
-  end_causes = search rules;
-  overall = λ _. c.served.ensures.status
-      ∙ ap (λ v. first_fault (map (λ end. end.status) v.items)) (sym c.served.ensures.ends);
-  status = search rules;
-}
+returns g c =
+    let d = g.D.Disk.model in
+    let s = g.S.Source in
+    let k = g.K.Sink in
+    let plan = c.args.plan.now in
+    let ends = c.args.ends.items in
+    let old = c.index_mut.result.now in
+    let r = c.served.result in
+    let new = c.serve_drill.new.end in
+    let is = ap (λ v. v.items) c.served.ensures.ends in
+    one_done d s.left s.faults k.written k.faults plan c.args.disks ends old new r c.requires.one_end
+    c.index_mut.ensures.value is Drill c.requires.command
+    (c.served.ensures.disks,
+    one_zip d s.left s.faults k.written k.faults plan c.args.disks ends old new r c.requires.one_end
+    c.index_mut.ensures.value is (ServesDrill plan s.left k.written) c.serve_drill.ensures.serves)
+    c.serve_drill.ensures.causes c.serve_drill.ensures.serves.status
+    (c.served.ensures.status ∙ ap (λ v. first_fault (map (λ end. end.status) v.items)) (sym c.served.ensures.ends))
+    c.served.ensures.place
