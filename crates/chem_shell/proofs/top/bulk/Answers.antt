@@ -17,10 +17,11 @@ returns g c =
     let new = c.serve_bulk.new.end in
     let is = ap (λ v. v.items) c.served.ensures.ends in
     one_done d s.left s.faults k.written k.faults plan c.args.disks ends old new r c.requires.one_end
-    c.index_mut.ensures.value is Bulk c.requires.command
-    (c.served.ensures.disks,
-    one_zip d s.left s.faults k.written k.faults plan c.args.disks ends old new r c.requires.one_end
-    c.index_mut.ensures.value is (ServesBulk plan k.written) c.serve_bulk.ensures.serves)
+    c.index_mut.ensures.value is Bulk c.requires.command (
+      c.served.ensures.disks,
+      one_zip d s.left s.faults k.written k.faults plan c.args.disks ends old new r c.requires.one_end
+          c.index_mut.ensures.value is (ServesBulk plan k.written) c.serve_bulk.ensures.serves,
+    )
     (sink_causes s.left s.faults k.faults old new c.serve_bulk.ensures.serves.status c.serve_bulk.ensures.sink_fault)
     (end_of_sink new.status c.serve_bulk.ensures.serves.status)
     (c.served.ensures.status ∙ ap (λ v. first_fault (map (λ end. end.status) v.items)) (sym c.served.ensures.ends))

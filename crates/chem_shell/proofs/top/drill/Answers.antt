@@ -17,10 +17,11 @@ returns g c =
     let new = c.serve_drill.new.end in
     let is = ap (λ v. v.items) c.served.ensures.ends in
     one_done d s.left s.faults k.written k.faults plan c.args.disks ends old new r c.requires.one_end
-    c.index_mut.ensures.value is Drill c.requires.command
-    (c.served.ensures.disks,
-    one_zip d s.left s.faults k.written k.faults plan c.args.disks ends old new r c.requires.one_end
-    c.index_mut.ensures.value is (ServesDrill plan s.left k.written) c.serve_drill.ensures.serves)
+    c.index_mut.ensures.value is Drill c.requires.command (
+      c.served.ensures.disks,
+      one_zip d s.left s.faults k.written k.faults plan c.args.disks ends old new r c.requires.one_end
+          c.index_mut.ensures.value is (ServesDrill plan s.left k.written) c.serve_drill.ensures.serves,
+    )
     c.serve_drill.ensures.causes c.serve_drill.ensures.serves.status
     (c.served.ensures.status ∙ ap (λ v. first_fault (map (λ end. end.status) v.items)) (sym c.served.ensures.ends))
     c.served.ensures.place

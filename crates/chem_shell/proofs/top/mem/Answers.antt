@@ -17,10 +17,11 @@ returns g c =
     let new = c.serve_mem.new.end in
     let is = ap (λ v. v.items) c.served.ensures.ends in
     one_done d s.left s.faults k.written k.faults plan c.args.disks ends old new r c.requires.one_end
-    c.index_mut.ensures.value is Mem c.requires.command
-    (c.served.ensures.disks,
-    one_zip d s.left s.faults k.written k.faults plan c.args.disks ends old new r c.requires.one_end
-    c.index_mut.ensures.value is (ServesMem plan s.left k.written) c.serve_mem.ensures.serves)
+    c.index_mut.ensures.value is Mem c.requires.command (
+      c.served.ensures.disks,
+      one_zip d s.left s.faults k.written k.faults plan c.args.disks ends old new r c.requires.one_end
+          c.index_mut.ensures.value is (ServesMem plan s.left k.written) c.serve_mem.ensures.serves,
+    )
     c.serve_mem.ensures.causes c.serve_mem.ensures.serves.script.status
     (c.served.ensures.status ∙ ap (λ v. first_fault (map (λ end. end.status) v.items)) (sym c.served.ensures.ends))
     c.served.ensures.place
