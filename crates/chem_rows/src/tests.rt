@@ -16,6 +16,7 @@ use std::thread::Threads;
 use store_core::Store;
 
 mod bulk;
+mod compact;
 mod cursors;
 mod disk;
 mod drills;

@@ -6,17 +6,20 @@ use Rattle.std.specs.Prelude.{IfSome, IsSomeAnd}
 use Rattle.disk_edge.specs.Failures.{bound_from, bound_of}
 use Rattle.disk_edge.specs.Medium.{Medium}
 use Rattle.disk_edge.specs.MediumLaws.{within}
+use Rattle.disk_edge.specs.declared.failures.Failures.{Failures}
 use Rattle.disk_pair.specs.Term.{disk_a, disk_b}
-use Rattle.store_core.specs.Calls.{NotAbove}
+use Rattle.disk_pair.specs.declared.choice.Which.{Which}
+use Rattle.disk_pair.specs.declared.choice.Which.TheVariants.{First, Second}
+use Rattle.store_core.specs.Calls.{NotRaised}
 use Rattle.store_machine.specs.Openings.{reopening}
 use Rattle.store_machine.specs.Runs.{RunsJoin}
 use Rattle.store_machine.specs.declared.machine.Step.{Step}
 use Rattle.store_disk.specs.OnDisk.{StoreTerm}
 use Rattle.drill_core.specs.Drills.{DrillsBegin, DrillsCall, DrillsFail, DrillsReopen, DrillsStop, FaultsAreSet}
 use Rattle.drill_core.specs.Faults.{CanCount, FaultsAreCounted, disk_faults, failed, failed_a, failed_b}
-use Rattle.drill_core.specs.Worlds.{failing, stopping}
+use Rattle.drill_core.specs.Worlds.{bounds_of, failing, stopping}
 use Rattle.drill_core.proofs.Faults.{fault-of, none-falls}
-use Rattle.drill_core.proofs.Settings.{same-on-b, set-on-a}
+use Rattle.drill_core.proofs.Settings.{count-on-a, count-on-b, same-on-a, same-on-b, set-on-a, set-on-b}
 
 one-more-failure : (passes once : Option ℕ) (count call : ℕ) → IfSome (bound_from passes once count)
     (λ n. IsSomeAnd (bound_from passes (Some call) count) (λ m. m ≤ n + 1))
@@ -25,15 +28,15 @@ one-more-failure None (Some k) count call = omega arith
 one-more-failure (Some p) once count call = tt
 
 -- a bound that is told, and raised by no more than this, is told
-still-bounded : (more : ℕ) (old new : Option ℕ) (n fails : ℕ) → old ≡ Some n → n ≤ fails
-    → IfSome old (λ k. IsSomeAnd new (λ m. m ≤ k + more)) → (m : ℕ) × (new ≡ Some m) × (m ≤ fails + more)
-still-bounded more None new n fails is le h = absurd (none is)
+still-bounded : (more : ℕ) (old new : Option ℕ) (n : ℕ) → old ≡ Some n
+    → IfSome old (λ k. IsSomeAnd new (λ m. m ≤ k + more)) → (m : ℕ) × (new ≡ Some m) × (m ≤ n + more)
+still-bounded more None new n is h = absurd (none is)
   where
     none : {x : ℕ} → None ≡ Some x → ⊥
     none e = cc e
-still-bounded more (Some k) None n fails is le h = absurd h
-still-bounded more (Some k) (Some m) n fails is le h =
-    let same : k ≡ n = one is in (m, refl, omega (arith, h, le, same))
+still-bounded more (Some k) None n is h = absurd h
+still-bounded more (Some k) (Some m) n is h =
+    let same : k ≡ n = one is in (m, refl, omega (arith, h, same))
   where
     one : {x y : ℕ} → Some x ≡ Some y → x ≡ y
     one e = cc e
@@ -44,12 +47,6 @@ not-above None new h = tt
 not-above (Some n) None h = h
 not-above (Some n) (Some m) h = omega (arith, h)
 
--- a bound of 0 stays
-still-none : (old new : Option ℕ) → old ≡ Some 0 → NotAbove old new → new ≡ Some 0
-still-none old new is above =
-    let m = still-bounded 0 old new 0 0 is (omega arith) (not-above old new above) in
-    let none : m.0 ≡ 0 = omega (arith, m.2) in m.1 ∙ ap Some none
-
 -- the counts are as they were
 still-counted : (old new : StoreTerm Medium) (part : List Step) → failed_a new ≡ failed_a old
     → failed_b new ≡ failed_b old → (CanCount old → disk_faults part ≤ failed old) → CanCount new
@@ -57,11 +54,47 @@ still-counted : (old new : StoreTerm Medium) (part : List Step) → failed_a new
 still-counted old new part a b counted few =
     omega (arith, counted (omega (arith, few.0, a), omega (arith, few.1, b)), a, b)
 
-abbrev count : Medium → ℕ
-count d = d.failures.count
-
 abbrev bound : Medium → Option ℕ
 bound d = bound_of d.failures
+
+-- the bounds of both disks are told, and together no greater than this
+abbrev AreTold : StoreTerm Medium → ℕ → Type 0
+AreTold world fails =
+    (n m : ℕ) × ((bounds_of world).0 ≡ Some n) × ((bounds_of world).1 ≡ Some m) × (n + m ≤ fails)
+
+still-told : (old new : StoreTerm Medium) (fails : ℕ) → NotRaised (bounds_of old) (bounds_of new) → AreTold old fails
+    → AreTold new fails
+still-told old new fails above b =
+    let n = still-bounded 0 _ _ b.0 b.2 (not-above _ _ above.0) in
+    let m = still-bounded 0 _ _ b.1 b.3 (not-above _ _ above.1) in
+    (n.0, m.0, n.1, m.1, omega (arith, n.2, m.2, b.4))
+
+-- a failure more raises the bound of its disk by one
+module _ (world : StoreTerm Medium) (call : ℕ) where
+  abbrev set : Medium → Medium
+  set d = record d { failures = record d.failures { once = Some call } }
+
+  raised-once : (old new : Medium) → new ≡ set old → IfSome (bound old) (λ n. IsSomeAnd (bound new) (λ m. m ≤ n + 1))
+  raised-once old new is =
+      let f = old.failures in
+      subst (λ d. IfSome (bound old) (λ n. IsSomeAnd (bound d) (λ m. m ≤ n + 1))) (sym is)
+      (one-more-failure f.passes f.once f.count call)
+
+  pub raised-on-a : IfSome (bounds_of world).0
+      (λ n. IsSomeAnd (bounds_of (failing First world call)).0 (λ m. m ≤ n + 1))
+  raised-on-a = raised-once (disk_a world.pair) _ (set-on-a set world.pair)
+
+  pub raised-on-b : IfSome (bounds_of world).1
+      (λ n. IsSomeAnd (bounds_of (failing Second world call)).1 (λ m. m ≤ n + 1))
+  raised-on-b = raised-once (disk_b world.pair) _ (set-on-b set world.pair)
+
+  one-more-told : (disk : Which) (fails : ℕ) → AreTold world fails → AreTold (failing disk world call) (fails + 1)
+  one-more-told First fails b =
+      let n = still-bounded 1 _ _ b.0 b.2 raised-on-a in
+      (n.0, b.1, n.1, ap bound (same-on-b set world.pair) ∙ b.3, omega (arith, n.2, b.4))
+  one-more-told Second fails b =
+      let m = still-bounded 1 _ _ b.1 b.3 raised-on-b in
+      (b.0, m.0, ap bound (same-on-a set world.pair) ∙ b.2, m.1, omega (arith, m.2, b.4))
 
 pub drills-begin : DrillsBegin
 drills-begin world s stands none = record {
@@ -69,8 +102,7 @@ drills-begin world s stands none = record {
   last = ([], refl);
   stands = stands;
   counted = λ few. omega arith;
-  bounded = λ e. (0, none.0, omega arith);
-  none_on_b = none.1;
+  bounded = λ e. (0, 0, none.0, none.1, omega arith);
 }
 
 pub drills-call : RunsJoin → FaultsAreCounted → DrillsCall
@@ -83,44 +115,31 @@ drills-call join law old new first s t steps part more stopped fails d r above =
       let fell = none-falls old new s t more r in
       let before = d.counted (omega (arith, fell.0, few.0), omega (arith, fell.1, few.1)) in
       omega (arith, now, before, sum_by-append fault-of part more);
-  bounded = λ e.
-      let b = d.bounded e in
-      let m = still-bounded 0 _ _ b.0 fails b.1 b.2 (not-above _ _ above.0) in
-      (m.0, m.1, omega (arith, m.2));
-  none_on_b = still-none _ _ d.none_on_b above.1;
+  bounded = λ e. still-told old new fails above (d.bounded e);
 }
 
 pub drills-fail : DrillsFail
-drills-fail world first s steps part stopped fails call d stands =
-    let set = λ (m : Medium). record m { failures = record m.failures { once = Some call } } in
-    let a = set-on-a set world.pair in
-    let b = same-on-b set world.pair in
+drills-fail disk world first s steps part stopped fails call d stands =
+    let set = λ (f : Failures). record f { once = Some call } in
     record {
       run = d.run;
       last = d.last;
       stands = stands;
-      counted = still-counted world (failing world call) part (ap count a) (ap count b) d.counted;
-      bounded = λ e.
-          let n = d.bounded e in
-          let f = (disk_a world.pair).failures in
-          still-bounded 1 _ _ n.0 fails n.1 n.2
-          (subst (λ d. IfSome (bound_of f) (λ k. IsSomeAnd (bound d) (λ m. m ≤ k + 1))) (sym a)
-          (one-more-failure f.passes f.once f.count call));
-      none_on_b = ap bound b ∙ d.none_on_b;
+      counted = still-counted world (failing disk world call) part (count-on-a set (λ f. refl) world disk)
+          (count-on-b set (λ f. refl) world disk) d.counted;
+      bounded = λ e. one-more-told world call disk fails (d.bounded e);
     }
 
 pub drills-stop : DrillsStop
-drills-stop world first s steps part stopped fails calls d stands =
-    let set = λ (m : Medium). record m { failures = record m.failures { passes = Some calls } } in
-    let a = set-on-a set world.pair in
-    let b = same-on-b set world.pair in
+drills-stop disk world first s steps part stopped fails calls d stands =
+    let set = λ (f : Failures). record f { passes = Some calls } in
     record {
       run = d.run;
       last = d.last;
       stands = stands;
-      counted = still-counted world (stopping world calls) part (ap count a) (ap count b) d.counted;
+      counted = still-counted world (stopping disk world calls) part (count-on-a set (λ f. refl) world disk)
+          (count-on-b set (λ f. refl) world disk) d.counted;
       bounded = λ e. absurd (true≢false e);
-      none_on_b = ap bound b ∙ d.none_on_b;
     }
 
 pub drills-reopen : RunsJoin → DrillsReopen
@@ -129,13 +148,12 @@ drills-reopen join old new first s steps part stopped fails a b count at begin e
   last = (steps ++ reopening s r.after at begin end, sym (append-nil (steps ++ reopening s r.after at begin end)));
   stands = r.stands;
   counted = λ few. omega arith;
-  bounded = λ e. (0, none.0, omega arith);
-  none_on_b = none.1;
+  bounded = λ e. (0, 0, none.0, none.1, omega arith);
 }
 
 pub faults-are-set : FaultsAreSet
 faults-are-set world first s steps part fails d few =
-    let n = d.bounded refl in
-    let a = within (disk_a world.pair) n.0 n.1 in
-    let b = within (disk_b world.pair) 0 d.none_on_b in
-    omega (arith, d.counted (omega (arith, a, n.2, few), omega (arith, b)), a, b, n.2)
+    let b = d.bounded refl in
+    let n = within (disk_a world.pair) b.0 b.2 in
+    let m = within (disk_b world.pair) b.1 b.3 in
+    omega (arith, d.counted (omega (arith, n, b.4, few), omega (arith, m, b.4, few)), n, m, b.4)

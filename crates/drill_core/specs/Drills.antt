@@ -1,6 +1,7 @@
 -- A drill: what is done with a world from its making on, reopenings included. For callers.
 use Rattle.std.specs.Prelude.{◌≡◌, ◌+◌, ◌++◌, ◌-◌, ◌<◌, ◌≤◌, ◌^◌, Bool, List, [], Some, false, true, ℕ}
 use Rattle.disk_edge.specs.Medium.{Medium, model}
+use Rattle.disk_pair.specs.declared.choice.Which.{Which}
 use Rattle.store_core.specs.Calls.{NotRaised}
 use Rattle.store_machine.specs.Openings.{reopening}
 use Rattle.store_machine.specs.Runs.{IsRun}
@@ -14,16 +15,16 @@ use Rattle.drill_core.specs.Faults.{CanCount, disk_faults, failed}
 use Rattle.drill_core.specs.Worlds.{HasNoFailures, Reopens, bounds_of, failing, stopping}
 
 -- All steps so far are a run, to a state for which the world stands. In the last part of them, since the making or the
--- last reopening, a stop was set on disk `a` or none, and so many failures, and nothing on disk `b`; each answer that a
--- disk failed stands for a call of one of them that failed.
+-- last reopening, a stop was set on either disk or none, and so many failures on both together; each answer that a disk
+-- failed stands for a call of one of them that failed.
 pub record IsDrill (world : StoreTerm Medium) (first now : State) (steps part : List Step) (stopped : Bool) (fails : ℕ)
     : Type 0 where
   pub run : IsRun first steps now
   pub last : (before : List Step) × (steps ≡ before ++ part)
   pub stands : StandsInMemory world now
   pub counted : CanCount world → disk_faults part ≤ failed world
-  pub bounded : stopped ≡ false → (n : ℕ) × ((bounds_of world).0 ≡ Some n) × (n ≤ fails)
-  pub none_on_b : (bounds_of world).1 ≡ Some 0
+  pub bounded : stopped ≡ false
+      → (n m : ℕ) × ((bounds_of world).0 ≡ Some n) × ((bounds_of world).1 ≡ Some m) × (n + m ≤ fails)
 
 -- it begins with a world without failures
 abbrev pub DrillsBegin : Type 0
@@ -38,16 +39,18 @@ DrillsCall = (old new : StoreTerm Medium) (first s t : State) (steps part more :
     → NotRaised (bounds_of old) (bounds_of new)
     → IsDrill new first t (steps ++ more) (part ++ more) stopped fails
 
--- by a failure and by a stop, which are set
+-- by a failure and by a stop, which are set on either disk
 abbrev pub DrillsFail : Type 0
-DrillsFail = (world : StoreTerm Medium) (first s : State) (steps part : List Step) (stopped : Bool) (fails call : ℕ)
-    → IsDrill world first s steps part stopped fails → StandsInMemory (failing world call) s
-    → IsDrill (failing world call) first s steps part stopped (fails + 1)
+DrillsFail = (disk : Which) (world : StoreTerm Medium) (first s : State) (steps part : List Step) (stopped : Bool)
+    (fails call : ℕ)
+    → IsDrill world first s steps part stopped fails → StandsInMemory (failing disk world call) s
+    → IsDrill (failing disk world call) first s steps part stopped (fails + 1)
 
 abbrev pub DrillsStop : Type 0
-DrillsStop = (world : StoreTerm Medium) (first s : State) (steps part : List Step) (stopped : Bool) (fails calls : ℕ)
-    → IsDrill world first s steps part stopped fails → StandsInMemory (stopping world calls) s
-    → IsDrill (stopping world calls) first s steps part true fails
+DrillsStop = (disk : Which) (world : StoreTerm Medium) (first s : State) (steps part : List Step) (stopped : Bool)
+    (fails calls : ℕ)
+    → IsDrill world first s steps part stopped fails → StandsInMemory (stopping disk world calls) s
+    → IsDrill (stopping disk world calls) first s steps part true fails
 
 -- and by reopenings
 abbrev pub DrillsReopen : Type 0
@@ -56,7 +59,7 @@ DrillsReopen = (old new : StoreTerm Medium) (first s : State) (steps part : List
     → IsDrill old first s steps part stopped fails → (r : Reopens s a b new count) → HasNoFailures new
     → IsDrill new first r.after (steps ++ reopening s r.after at begin end) [] false 0
 
--- without a stop there are no more answers that a disk failed than failures were set
+-- without a stop there are no more answers that a disk failed than failures were set on either disk
 abbrev pub FaultsAreSet : Type 0
 FaultsAreSet = (world : StoreTerm Medium) (first s : State) (steps part : List Step) (fails : ℕ)
     → IsDrill world first s steps part false fails → fails < 2 ^ 64 - 1 → disk_faults part ≤ fails

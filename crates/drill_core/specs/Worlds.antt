@@ -1,4 +1,4 @@
--- What is set on a world's disk, what a reopening makes of both, and what a world always is. For callers but for the
+-- What is set on a world's disks, what a reopening makes of them, and what a world always is. For callers but for the
 -- last.
 use Rattle.std.specs.Prelude.{◌≡◌, ◌≤◌, List, Option, Some, ℕ}
 use Rattle.disk_edge.specs.Disk.{Exactly}
@@ -8,7 +8,7 @@ use Rattle.disk_edge.specs.Medium.{Medium, model}
 use Rattle.disk_edge.specs.declared.failures.Failures.{Failures}
 use Rattle.disk_pair.specs.Changed.{changed}
 use Rattle.disk_pair.specs.Term.{disk_a, disk_b}
-use Rattle.disk_pair.specs.declared.choice.Which.TheVariants.{First}
+use Rattle.disk_pair.specs.declared.choice.Which.{Which}
 use Rattle.store_machine.specs.History.{head}
 use Rattle.store_machine.specs.Machine.{Recovers}
 use Rattle.store_machine.specs.Openings.{IsOpened, reopening}
@@ -19,16 +19,16 @@ use Rattle.store_disk.specs.InMemory.{StandsInMemory}
 use Rattle.store_disk.specs.Loads.{OpensTo}
 use Rattle.store_disk.specs.OnDisk.{StoreTerm}
 
--- with other failures set on disk `a`: one that fails once, and a stop
-abbrev pub with_failures : StoreTerm Medium → (Failures → Failures) → StoreTerm Medium
-with_failures store set =
-    record store { pair = changed First (λ d. record d { failures = set d.failures }) store.pair }
+-- with other failures set on one of the two disks: one that fails once, and a stop
+abbrev pub with_failures : Which → StoreTerm Medium → (Failures → Failures) → StoreTerm Medium
+with_failures disk store set =
+    record store { pair = changed disk (λ d. record d { failures = set d.failures }) store.pair }
 
-abbrev pub failing : StoreTerm Medium → ℕ → StoreTerm Medium
-failing store call = with_failures store (λ f. record f { once = Some call })
+abbrev pub failing : Which → StoreTerm Medium → ℕ → StoreTerm Medium
+failing disk store call = with_failures disk store (λ f. record f { once = Some call })
 
-abbrev pub stopping : StoreTerm Medium → ℕ → StoreTerm Medium
-stopping store calls = with_failures store (λ f. record f { passes = Some calls })
+abbrev pub stopping : Which → StoreTerm Medium → ℕ → StoreTerm Medium
+stopping disk store calls = with_failures disk store (λ f. record f { passes = Some calls })
 
 -- the bounds of the faults of disk `a` and of disk `b`
 abbrev pub bounds_of : StoreTerm Medium → Option ℕ × Option ℕ

@@ -10,7 +10,7 @@ pub fn disk_faults_are_counted()
 {}
 
 /// All that is done with a world, reopenings included, is one run. Since the last of these no more calls were answered
-/// that a disk failed than failures were set, where no stop was.
+/// that a disk failed than failures were set on either disk, where no stop was.
 pub fn drills_are_runs()
     ensures begins { DrillsBegin }
     ensures calls { DrillsCall }

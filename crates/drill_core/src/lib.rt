@@ -1,4 +1,4 @@
-//! A world of stops: a store on two disks in memory, of which `a` fails where it is told to. Both may be left by a
+//! A world of stops: a store on two disks in memory, each of which fails where it is told to. Both may be left by a
 //! crash and opened again.
 //!
 //! A `World` is a `Service`, by its store. What is called between two reopenings is a run without a crash; a reopening

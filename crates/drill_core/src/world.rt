@@ -1,4 +1,4 @@
-//! A store on two disks in memory that may be stopped at any call of disk `a`, and opened again. All that a crash
+//! A store on two disks in memory that may be stopped at any call of either disk, and opened again. All that a crash
 //! leaves is what the disks hold; the store in memory is made anew.
 
 ghost use Rattle.std.specs.Prelude.{◌≡◌, ◌≤◌, ◌+◌, [], All, IfOk, IfSome, IsSomeAnd, length, None, OnErr, true};
@@ -6,6 +6,7 @@ ghost use Rattle.std.specs.Arc.{arc_value};
 ghost use Rattle.disk_edge.specs.Fresh.{fresh};
 ghost use Rattle.disk_edge.specs.Medium.{model};
 ghost use Rattle.disk_pair.specs.Term.{disk_a, disk_b};
+ghost use Rattle.disk_pair.specs.declared.choice.Which.TheVariants.{First, Second};
 ghost use Rattle.store_core.specs.Calls.{Calls, NotRaised, SameHeld, WornAs, is_worn};
 ghost use Rattle.store_core.specs.Records.{Shared};
 ghost use Rattle.store_core.specs.Replies.{fetch_calls};
@@ -17,7 +18,7 @@ ghost use Rattle.store_machine.specs.Openings.{IsOpened};
 ghost use Rattle.store_machine.specs.declared.machine.State.{State};
 ghost use Rattle.store_disk.specs.InMemory.{StandsInMemory};
 ghost use Rattle.store_disk.specs.Stored.{Stretches};
-ghost use Rattle.drill_core.specs.Faults.{failed_a};
+ghost use Rattle.drill_core.specs.Faults.{failed_a, failed_b};
 ghost use Rattle.drill_core.specs.Worlds.{HasNoFailures, HasSynced, Reopens, bounds_of, failing, left_on, stopping};
 
 use chem_core::Print;
@@ -27,7 +28,10 @@ use snap_registry::Pin;
 use std::alloc::{AllocError, Global};
 use std::marker::Model;
 use std::sync::ledger::Ledger;
-use store_core::{CallFault, Change, CommitFault, Look, MOST_COMMITS, Page, Service, Stats, Steps};
+use store_core::{
+    CallFault, Change, CommitFault, Compact, CompactFault, Look, MOST_COMMITS, Page, Service,
+    Stats, Steps,
+};
 use store_disk::{Disks, Store, a_standing_store_opens, a_store_opens_one_way};
 use store_machine::crash_opens;
 
@@ -75,7 +79,7 @@ impl World {
     /// tells no bound of its faults. Disk `b` is as before. Takes no memory.
     pub fn stop_after(&mut self, calls: u64)
         ensures stands { (s : State) → StandsInMemory self.old s → StandsInMemory self.new s }
-        ensures only { self.new ≡ stopping self.old calls }
+        ensures only { self.new ≡ stopping First self.old calls }
         ensures bound { (bounds_of self.new).0 ≡ None }
         ensures b { disk_b self.new.pair ≡ disk_b self.old.pair }
     {
@@ -87,13 +91,38 @@ impl World {
     /// as before. Takes no memory.
     pub fn fail_once(&mut self, call: u64)
         ensures stands { (s : State) → StandsInMemory self.old s → StandsInMemory self.new s }
-        ensures only { self.new ≡ failing self.old call }
+        ensures only { self.new ≡ failing First self.old call }
         ensures bound { IfSome (bounds_of self.old).0
             (λ n. IsSomeAnd (bounds_of self.new).0 (λ m. m ≤ n + 1)) }
         ensures count { failed_a self.new ≡ failed_a self.old }
         ensures b { disk_b self.new.pair ≡ disk_b self.old.pair }
     {
         self.store.fail_once(call);
+    }
+
+    /// `calls` calls of disk `b` pass, and then each fails, in the place of a stop that was set before. That disk then
+    /// tells no bound of its faults. Disk `a` is as before. Takes no memory.
+    pub fn stop_after_b(&mut self, calls: u64)
+        ensures stands { (s : State) → StandsInMemory self.old s → StandsInMemory self.new s }
+        ensures only { self.new ≡ stopping Second self.old calls }
+        ensures bound { (bounds_of self.new).1 ≡ None }
+        ensures a { disk_a self.new.pair ≡ disk_a self.old.pair }
+    {
+        self.store.stop_after_b(calls);
+    }
+
+    /// The call of disk `b` of this number from now, counted from 1, fails, in the place of one that was set before and
+    /// has not failed yet. It raises the bound of that disk's faults by at most one, and not their count. Disk `a` is
+    /// as before. Takes no memory.
+    pub fn fail_once_b(&mut self, call: u64)
+        ensures stands { (s : State) → StandsInMemory self.old s → StandsInMemory self.new s }
+        ensures only { self.new ≡ failing Second self.old call }
+        ensures bound { IfSome (bounds_of self.old).1
+            (λ n. IsSomeAnd (bounds_of self.new).1 (λ m. m ≤ n + 1)) }
+        ensures count { failed_b self.new ≡ failed_b self.old }
+        ensures a { disk_a self.new.pair ≡ disk_a self.old.pair }
+    {
+        self.store.fail_once_b(call);
     }
 
     /// A crash that leaves the image of this number of each disk, and a loading. What a disk holds is then what
@@ -219,6 +248,10 @@ impl Service for World {
 
     fn stats(&mut self) -> Result<Stats, CallFault> {
         self.store.stats()
+    }
+
+    fn compact(&mut self) -> Result<Compact, CompactFault> {
+        self.store.compact()
     }
 
     ghost stays = { stays model };

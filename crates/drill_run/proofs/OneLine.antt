@@ -211,6 +211,6 @@ module _ (law : PinsStay) (size number : ℕ) (x : Exchange) (all between : AllK
   by-read stays None is d = quiet None _ is tt d
   by-read stays (Some Empty) is d = quiet (Some Empty) _ is tt d
   by-read stays (Some (Session n line)) is d = of-session n line is d
-  by-read stays (Some (Stop calls)) is d = quiet (Some (Stop calls)) _ is tt d
-  by-read stays (Some (Fail call)) is d = quiet (Some (Fail call)) _ is tt d
+  by-read stays (Some (Stop disk calls)) is d = quiet (Some (Stop disk calls)) _ is tt d
+  by-read stays (Some (Fail disk call)) is d = quiet (Some (Fail disk call)) _ is tt d
   by-read stays (Some (Reopen image)) is d = absurd (stays (image, is))

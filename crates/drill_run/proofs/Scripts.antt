@@ -88,8 +88,8 @@ under_way-start size start before put r all fresh none unset = record {
 fails-after : (t : Tally) (read : Option DrillLine) (calls : Calls) → (tally_after t read calls).fails ≤ t.fails + 1
 fails-after t (Some Empty) calls = omega arith
 fails-after t (Some (Session number line)) calls = omega arith
-fails-after t (Some (Stop calls_left)) calls = omega arith
-fails-after t (Some (Fail call)) calls = omega arith
+fails-after t (Some (Stop disk calls_left)) calls = omega arith
+fails-after t (Some (Fail disk call)) calls = omega arith
 fails-after t (Some (Reopen image)) calls = omega arith
 fails-after t None calls = omega arith
 

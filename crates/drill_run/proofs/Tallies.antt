@@ -1,5 +1,5 @@
 -- What lines do to the tally of their part.
-use Rattle.std.proofs.Common.{◌≡◌, ◌∙◌, ◌≤◌, ◌<◌, ◌+◌, ◌^◌, ap, arith, inl, inr, None, Option, refl, Some, subst, suc, sym, zero, ℕ}
+use Rattle.std.proofs.Common.{◌≡◌, ◌∙◌, ◌≤◌, ◌<◌, ◌+◌, ◌^◌, ap, arith, inl, inr, None, Option, refl, Some, suc, zero, ℕ}
 use Rattle.std.specs.Prelude.{IfSome, IsSomeAnd}
 use Rattle.disk_edge.specs.Failures.{bound_from, bound_of, pending}
 use Rattle.disk_edge.specs.declared.failures.Failures.{Failures}
@@ -10,7 +10,7 @@ use Rattle.drill_run.specs.Turns.{IsSmall}
 
 -- `IsTallied` of the failures of disk `a` and of disk `b` alone
 abbrev pub Tallies : Tally → Failures → Failures → Type 0
-Tallies t a b = t.stops ≡ 0 → IsSomeAnd (bound_of a) (λ n. n ≤ t.fails) × (bound_of b ≡ Some 0)
+Tallies t a b = t.stops ≡ 0 → (n m : ℕ) × (bound_of a ≡ Some n) × (bound_of b ≡ Some m) × (n + m ≤ t.fails)
     × (t.faults ≤ a.count + b.count)
 
 -- a count is no greater than its bound
@@ -18,29 +18,17 @@ below : (passes once : Option ℕ) (count n : ℕ) → bound_from passes once co
 below None once count n e = let k : count + pending once ≡ n = cc in omega (arith, k)
 below (Some p) once count n e = cc
 
-below-by : (f : Failures) (P : ℕ → Type 0) → IsSomeAnd (bound_of f) P → (n : ℕ) × P n × (f.count ≤ n)
-below-by f P h = by (bound_of f) refl h where
-  by : (b : Option ℕ) → bound_of f ≡ b → IsSomeAnd b P → (n : ℕ) × P n × (f.count ≤ n)
-  by None e h = absurd h
-  by (Some n) e h = (n, h, below f.passes f.once f.count n e)
+-- a bound that is told, and raised by no more than this, is told
+raised : (more : ℕ) (old new : Option ℕ) (n : ℕ) → IfSome old (λ k. IsSomeAnd new (λ m. m ≤ k + more)) → old ≡ Some n
+    → (m : ℕ) × (new ≡ Some m) × (m ≤ n + more)
+raised more None new n h e = cc e
+raised more (Some k) None n h e = absurd h
+raised more (Some k) (Some m) n h e = let same : k ≡ n = cc e in (m, refl, omega (arith, h, same))
 
-not_above : (a b : Option ℕ) (n : ℕ) → NotAbove a b → IsSomeAnd a (λ m. m ≤ n) → IsSomeAnd b (λ m. m ≤ n)
-not_above None b n h k = absurd k
-not_above (Some m) None n h k = absurd h
-not_above (Some m) (Some l) n h k = omega (arith, h, k)
-
-none_above : (a b : Option ℕ) → NotAbove a b → a ≡ Some 0 → b ≡ Some 0
-none_above None b h e = cc e
-none_above (Some m) None h e = absurd h
-none_above (Some m) (Some l) h e =
-    let none : m ≡ 0 = cc e in
-    ap Some (omega (arith, h, none))
-
-one_above : (a b : Option ℕ) (n : ℕ) → IfSome a (λ m. IsSomeAnd b (λ l. l ≤ m + 1)) → IsSomeAnd a (λ m. m ≤ n)
-    → IsSomeAnd b (λ m. m ≤ n + 1)
-one_above None b n h k = absurd k
-one_above (Some m) None n h k = absurd h
-one_above (Some m) (Some l) n h k = omega (arith, h, k)
+unraised : (old new : Option ℕ) (n : ℕ) → NotAbove old new → old ≡ Some n → (m : ℕ) × (new ≡ Some m) × (m ≤ n)
+unraised None new n h e = cc e
+unraised (Some k) None n h e = absurd h
+unraised (Some k) (Some m) n h e = let same : k ≡ n = cc e in (m, refl, omega (arith, h, same))
 
 -- events of a session's line
 pub tally-session : (t : Tally) (a b a' b' : Failures) (calls : Calls) → Tallies t a b → IsSmall t
@@ -48,40 +36,57 @@ pub tally-session : (t : Tally) (a b a' b' : Failures) (calls : Calls) → Talli
     → (a'.count + 1 < 2 ^ 64 → b'.count + 1 < 2 ^ 64 → a.count + b.count + faults_in calls ≤ a'.count + b'.count)
     → MayFail t (faults_in calls) × Tallies (record t { faults = t.faults + faults_in calls }) a' b'
 tally-session t a b a' b' calls h small bounds counted = by t.stops refl where
-  after : t.stops ≡ 0 → IsSomeAnd (bound_of a') (λ n. n ≤ t.fails) × (bound_of b' ≡ Some 0)
+  after : t.stops ≡ 0 → (n m : ℕ) × (bound_of a' ≡ Some n) × (bound_of b' ≡ Some m) × (n + m ≤ t.fails)
       × (t.faults + faults_in calls ≤ a'.count + b'.count) × (a'.count + b'.count ≤ t.fails)
   after e =
       let k = h e in
-      let above = not_above (bound_of a) (bound_of a') t.fails bounds.0 k.0 in
-      let none = none_above (bound_of b) (bound_of b') bounds.1 k.1 in
-      let n = below-by a' (λ n. n ≤ t.fails) above in
-      let less : a'.count ≤ t.fails = omega (arith, n.1, n.2) in
-      let zero : b'.count ≤ 0 = below b'.passes b'.once b'.count 0 none in
-      let sum = counted (omega (arith, less, small)) (omega (arith, zero)) in
-      (above, none, omega (arith, sum, k.2), omega (arith, less, zero))
+      let n = unraised (bound_of a) (bound_of a') k.0 bounds.0 k.2 in
+      let m = unraised (bound_of b) (bound_of b') k.1 bounds.1 k.3 in
+      let less = below a'.passes a'.once a'.count n.0 n.1 in
+      let fewer = below b'.passes b'.once b'.count m.0 m.1 in
+      let fit : n.0 + m.0 ≤ t.fails = omega (arith, n.2, m.2, k.4) in
+      let sum = counted (omega (arith, less, fit, small)) (omega (arith, fewer, fit, small)) in
+      (n.0, m.0, n.1, m.1, fit, omega (arith, sum, k.5), omega (arith, less, fewer, fit))
 
   by : (n : ℕ) → t.stops ≡ n → MayFail t (faults_in calls)
       × Tallies (record t { faults = t.faults + faults_in calls }) a' b'
-  by zero e = let k = after e in (inr (inr (omega (arith, k.2, k.3))), λ z. ((after z).0, (after z).1, (after z).2))
+  by zero e = let k = after e in (
+    inr (inr (omega (arith, k.5, k.6))),
+    λ z. (k.0, k.1, k.2, k.3, k.4, k.5),
+  )
   by (suc n) e = (inr (inl (omega (arith, e))), λ z. absurd (omega (arith, e, z)))
 
 pub tally-stop : (t : Tally) (a b : Failures) → Tallies (record t { stops = t.stops + 1 }) a b
 tally-stop t a b = λ e. absurd (omega (arith, e))
 
-pub tally-fail : (t : Tally) (a b a' b' : Failures) → Tallies t a b
-    → IfSome (bound_of a) (λ m. IsSomeAnd (bound_of a') (λ l. l ≤ m + 1)) → a'.count ≡ a.count → b' ≡ b
-    → Tallies (record t { fails = t.fails + 1 }) a' b'
-tally-fail t a b a' b' h bound same other = λ e.
-    let k = h e in (
-      one_above (bound_of a) (bound_of a') t.fails bound k.0,
-      ap bound_of other ∙ k.1,
-      omega (arith, k.2, same, ap (λ (f : Failures). f.count) other),
-    )
+-- a failure more of disk `a`, and of disk `b`
+module _ (t : Tally) (a b a' b' : Failures) (h : Tallies t a b) where
+  pub tally-fail : IfSome (bound_of a) (λ m. IsSomeAnd (bound_of a') (λ l. l ≤ m + 1)) → a'.count ≡ a.count → b' ≡ b
+      → Tallies (record t { fails = t.fails + 1 }) a' b'
+  tally-fail bound same other = λ e.
+      let k = h e in
+      let n = raised 1 (bound_of a) (bound_of a') k.0 bound k.2 in (
+        n.0,
+        k.1,
+        n.1,
+        ap bound_of other ∙ k.3,
+        omega (arith, n.2, k.4),
+        omega (arith, k.5, same, ap (λ (f : Failures). f.count) other),
+      )
+
+  pub tally-fail-b : IfSome (bound_of b) (λ m. IsSomeAnd (bound_of b') (λ l. l ≤ m + 1)) → b'.count ≡ b.count → a' ≡ a
+      → Tallies (record t { fails = t.fails + 1 }) a' b'
+  tally-fail-b bound same other = λ e.
+      let k = h e in
+      let m = raised 1 (bound_of b) (bound_of b') k.1 bound k.3 in (
+        k.0,
+        m.0,
+        ap bound_of other ∙ k.2,
+        m.1,
+        omega (arith, m.2, k.4),
+        omega (arith, k.5, same, ap (λ (f : Failures). f.count) other),
+      )
 
 pub tally-new : (a b : Failures) → bound_of a ≡ Some 0 → bound_of b ≡ Some 0
     → Tallies (record { stops = 0; fails = 0; faults = 0 }) a b
-tally-new a b first second = λ _. (
-  subst (λ (n : Option ℕ). IsSomeAnd n (λ n. n ≤ 0)) (sym first) (omega arith),
-  second,
-  omega arith,
-)
+tally-new a b first second = λ _. (0, 0, first, second, omega arith, omega arith)

@@ -6,7 +6,8 @@ use Rattle.drill_core.specs.Faults.{is_disk_fault}
 use Rattle.drill_run.specs.Dialogue.{Exchange}
 use Rattle.drill_run.specs.Lines.{DrillLine, Empty, Session, Stop, Fail, Reopen}
 
--- what a part of a drill has so far: lines `stop`, lines `fail`, and events that were answered by a disk fault
+-- what a part of a drill has so far: lines `stop` and `stop-b`, lines `fail` and `fail-b`, and events that were
+-- answered by a disk fault
 pub record Tally : Type 0 where
   pub stops : ℕ
   pub fails : ℕ
@@ -22,13 +23,13 @@ faults_in calls = count_by (λ c. is_disk_fault c.1) calls
 abbrev pub tally_after : Tally → Option DrillLine → Calls → Tally
 tally_after t (Some Empty) calls = t
 tally_after t (Some (Session number line)) calls = record t { faults = t.faults + faults_in calls }
-tally_after t (Some (Stop calls_left)) calls = record t { stops = t.stops + 1 }
-tally_after t (Some (Fail call)) calls = record t { fails = t.fails + 1 }
+tally_after t (Some (Stop disk calls_left)) calls = record t { stops = t.stops + 1 }
+tally_after t (Some (Fail disk call)) calls = record t { fails = t.fails + 1 }
 tally_after t (Some (Reopen image)) calls = nothing_set
 tally_after t None calls = t
 
--- So many more events may be answered by a disk fault: none, or any number behind a `stop`, or as many as leave no more
--- faults than lines `fail`
+-- So many more events may be answered by a disk fault: none, or any number behind a stop, or as many as leave no more
+-- faults than failures that were set
 abbrev pub MayFail : Tally → ℕ → Type 0
 MayFail t more = (more ≡ 0) ⊎ ((1 ≤ t.stops) ⊎ (t.faults + more ≤ t.fails))
 

@@ -80,8 +80,8 @@ abbrev pub Does : ℕ → TextLine → Option DrillLine → AllKept → Calls �
 Does size line (Some Empty) all calls text all' = Says [] all calls text all'
 Does size line (Some (Session number own)) all calls text all' =
     IsSessionAnswer size number own all calls text all'
-Does size line (Some (Stop calls_left)) all calls text all' = Says set_text all calls text all'
-Does size line (Some (Fail call)) all calls text all' = Says set_text all calls text all'
+Does size line (Some (Stop disk calls_left)) all calls text all' = Says set_text all calls text all'
+Does size line (Some (Fail disk call)) all calls text all' = Says set_text all calls text all'
 Does size line (Some (Reopen image)) all calls text all' = IsReopening all calls text all'
 Does size line None all calls text all' = Says (refused_text line) all calls text all'
 

@@ -1,5 +1,5 @@
 -- For private clauses alone: what a turn of a drill does, and when the next can be done.
-use Rattle.std.specs.Prelude.{◌≡◌, ◌≤◌, ◌<◌, ◌+◌, ◌^◌, ℕ, IsSomeAnd, List, [], ◌∷◌, ◌++◌, length, Option, Result, Ok, Err, Some, true}
+use Rattle.std.specs.Prelude.{◌≡◌, ◌≤◌, ◌<◌, ◌+◌, ◌^◌, ℕ, List, [], ◌∷◌, ◌++◌, length, Option, Result, Ok, Err, Some, true}
 use Rattle.std.specs.Io.KnownBytes.{Appends}
 use Rattle.std.specs.List.{AllByRecursion}
 use Rattle.std.specs.declared.alloc.AllocError.{AllocError}
@@ -53,11 +53,11 @@ pub record AreReady (world : WorldTerm) (sessions : Sessions) : Type 0 where
   pub fit : AllByRecursion (IsSessionOf sessions.settings) sessions.responders.items
   pub held : AreHeld (HoldsPin world.memory) (all_of (kept_in sessions.responders.items))
 
--- Without a stop, disk `a` has no more faults to count than the part has lines `fail`, and disk `b` has none. The
--- events with a disk fault are among those that both counted
+-- Without a stop, the two disks have no more faults to count than the part has failures set. The events with a disk
+-- fault are among those that both counted
 abbrev pub IsTallied : Tally → WorldTerm → Type 0
 IsTallied t world = t.stops ≡ 0
-    → IsSomeAnd (bounds_of world).0 (λ n. n ≤ t.fails) × ((bounds_of world).1 ≡ Some 0)
+    → (n m : ℕ) × ((bounds_of world).0 ≡ Some n) × ((bounds_of world).1 ≡ Some m) × (n + m ≤ t.fails)
     × (t.faults ≤ failed world)
 
 -- a tally whose numbers a count of faults can hold

@@ -11,8 +11,8 @@ use Rattle.drill_run.specs.declared.line.DrillLine.TheVariants as lines
 abbrev pub line_of : read.DrillLine → DrillLine
 line_of lines.Empty = Empty
 line_of (lines.Session number line) = Session number line.now
-line_of (lines.Stop calls) = Stop calls
-line_of (lines.Fail call) = Fail call
+line_of (lines.Stop disk calls) = Stop disk calls
+line_of (lines.Fail disk call) = Fail disk call
 line_of (lines.Reopen image) = Reopen image
 
 abbrev pub kept_in : List Responder → AllKept

@@ -2,10 +2,12 @@
 ghost use Rattle.std.specs.Prelude.{◌≡◌, ◌≢◌, ◌≤◌, ◌++◌, ◌∷◌, Contains, IfNone, IfSome, List, decimal, option_map, ℕ};
 ghost use Rattle.std.specs.Bool.{OnFalse, OnTrue};
 ghost use Rattle.shell_lang.specs.Command.{HasNoSpace};
-ghost use Rattle.drill_run.specs.Lines.{IsLine};
+ghost use Rattle.disk_pair.specs.declared.choice.Which.{Which};
+ghost use Rattle.drill_run.specs.Lines.{IsLine, word_for};
 ghost use Rattle.drill_run.specs.Views.{line_of};
 
 use chem_text::decimal;
+use disk_pair::Which;
 
 /// How many sessions a drill has.
 pub const SESSIONS: u32 = 16;
@@ -23,10 +25,10 @@ pub enum DrillLine<'a> {
     Empty,
     /// `S LINE`: a script line for a session, from 1 on.
     Session { number: u32, line: &'a [u8] },
-    /// `stop K`: after `calls` calls of disk `a` each fails.
-    Stop { calls: u32 },
-    /// `fail K`: the call of disk `a` of this number from now fails.
-    Fail { call: u32 },
+    /// `stop K`, and `stop-b K` for disk `b`: after `calls` calls of the disk each fails.
+    Stop { disk: Which, calls: u32 },
+    /// `fail K`, and `fail-b K` for disk `b`: the call of the disk of this number from now fails.
+    Fail { disk: Which, call: u32 },
     /// `reopen N`: a crash that leaves the image of this number of each disk, and an opening.
     Reopen { image: u32 },
 }
@@ -39,13 +41,15 @@ pub fn drill_line(line: &[u8]) -> Option<DrillLine<'_>>
         return Some(DrillLine::Empty);
     }
     let (first, rest) = split_at_space(line)?;
-    if are_same(first, b"stop") {
+    if let Some(disk) = disk_of(first, b"stop", b"stop-b") {
         return Some(DrillLine::Stop {
+            disk,
             calls: number(rest, MOST_CALLS)?,
         });
     }
-    if are_same(first, b"fail") {
+    if let Some(disk) = disk_of(first, b"fail", b"fail-b") {
         return Some(DrillLine::Fail {
+            disk,
             call: number_from_1(rest, MOST_CALLS)?,
         });
     }
@@ -58,6 +62,20 @@ pub fn drill_line(line: &[u8]) -> Option<DrillLine<'_>>
         number: number_from_1(first, SESSIONS)?,
         line: rest,
     })
+}
+
+// Which disk a word is for, by the words for disk `a` and for disk `b`.
+fn disk_of(word: &[u8], a: &[u8], b: &[u8]) -> Option<Which>
+    ensures some { IfSome result (λ disk. word.now ≡ word_for disk a.now b.now) }
+    ensures none { IfNone result ((disk : Which) → word.now ≢ word_for disk a.now b.now) }
+{
+    if are_same(word, a) {
+        return Some(Which::First);
+    }
+    if are_same(word, b) {
+        return Some(Which::Second);
+    }
+    None
 }
 
 fn are_same(bytes: &[u8], others: &[u8]) -> bool

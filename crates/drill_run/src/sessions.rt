@@ -1,6 +1,7 @@
 //! The sessions of a drill, and what a line is answered.
 ghost use Rattle.std.specs.Prelude.{◌≡◌, ◌≤◌, ◌++◌, [], IfOk, List, None, OnErr, OnOk, Some, length, map, ℕ};
 ghost use Rattle.std.specs.List.{AllByRecursion};
+ghost use Rattle.disk_pair.specs.declared.choice.Which.TheVariants.{First, Second};
 ghost use Rattle.io_edge.specs.Lines.{TextLine, TooLong, Whole};
 ghost use Rattle.session_run.specs.Opened.{opened};
 ghost use Rattle.session_run.specs.Pins.{AreHeld};
@@ -23,6 +24,7 @@ ghost use Rattle.drill_run.specs.Views.{kept_in};
 use crate::line::{DrillLine, SESSIONS, drill_line};
 use crate::numbers::push_numbered;
 use chem_text::push_decimal;
+use disk_pair::Which;
 use drill_core::{World, disk_faults_are_counted};
 use io_edge::Line;
 use par_search::Meter;
@@ -98,8 +100,8 @@ impl Sessions {
         match drill_line(text) {
             Some(DrillLine::Empty) => Ok(world),
             Some(DrillLine::Session { number, line }) => self.ask(rt, world, meter, number, line),
-            Some(DrillLine::Stop { calls }) => self.stop(world, calls),
-            Some(DrillLine::Fail { call }) => self.fail(world, call),
+            Some(DrillLine::Stop { disk, calls }) => self.stop(world, disk, calls),
+            Some(DrillLine::Fail { disk, call }) => self.fail(world, disk, call),
             Some(DrillLine::Reopen { image }) => self.reopen(world, image),
             None => self.refuse(world),
         }
@@ -121,23 +123,67 @@ impl Sessions {
         self.say(world, b"refused drill\n")
     }
 
-    fn stop(&mut self, mut world: World, calls: u32) -> Result<World, AllocError>
+    fn stop(&mut self, world: World, disk: Which, calls: u32) -> Result<World, AllocError>
         requires ready { AreReady world self.old }
         requires empty { self.old.out.items ≡ [] }
-        ensures { (line : TextLine) → Reads line (Some (lines.Stop calls))
+        ensures { (line : TextLine) → Reads line (Some (lines.Stop disk calls))
+            → Answered self.old self.new world line result }
+    {
+        match disk {
+            Which::First => self.stop_a(world, calls),
+            Which::Second => self.stop_b(world, calls),
+        }
+    }
+
+    fn fail(&mut self, world: World, disk: Which, call: u32) -> Result<World, AllocError>
+        requires ready { AreReady world self.old }
+        requires empty { self.old.out.items ≡ [] }
+        ensures { (line : TextLine) → Reads line (Some (lines.Fail disk call))
+            → Answered self.old self.new world line result }
+    {
+        match disk {
+            Which::First => self.fail_a(world, call),
+            Which::Second => self.fail_b(world, call),
+        }
+    }
+
+    fn stop_a(&mut self, mut world: World, calls: u32) -> Result<World, AllocError>
+        requires ready { AreReady world self.old }
+        requires empty { self.old.out.items ≡ [] }
+        ensures { (line : TextLine) → Reads line (Some (lines.Stop First calls))
             → Answered self.old self.new world line result }
     {
         world.stop_after(u64::from(calls));
         self.say(world, b"set\n")
     }
 
-    fn fail(&mut self, mut world: World, call: u32) -> Result<World, AllocError>
+    fn fail_a(&mut self, mut world: World, call: u32) -> Result<World, AllocError>
         requires ready { AreReady world self.old }
         requires empty { self.old.out.items ≡ [] }
-        ensures { (line : TextLine) → Reads line (Some (lines.Fail call))
+        ensures { (line : TextLine) → Reads line (Some (lines.Fail First call))
             → Answered self.old self.new world line result }
     {
         world.fail_once(u64::from(call));
+        self.say(world, b"set\n")
+    }
+
+    fn stop_b(&mut self, mut world: World, calls: u32) -> Result<World, AllocError>
+        requires ready { AreReady world self.old }
+        requires empty { self.old.out.items ≡ [] }
+        ensures { (line : TextLine) → Reads line (Some (lines.Stop Second calls))
+            → Answered self.old self.new world line result }
+    {
+        world.stop_after_b(u64::from(calls));
+        self.say(world, b"set\n")
+    }
+
+    fn fail_b(&mut self, mut world: World, call: u32) -> Result<World, AllocError>
+        requires ready { AreReady world self.old }
+        requires empty { self.old.out.items ≡ [] }
+        ensures { (line : TextLine) → Reads line (Some (lines.Fail Second call))
+            → Answered self.old self.new world line result }
+    {
+        world.fail_once_b(u64::from(call));
         self.say(world, b"set\n")
     }
 

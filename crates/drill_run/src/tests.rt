@@ -111,6 +111,12 @@ fn lines_that_are_none_are_refused(rt: HostRuntime) -> Result<(), Fail> {
         "fail 0",
         "fail 1000001",
         "fail 1 ",
+        "stop-b",
+        "stop-b 01",
+        "stop-a 1",
+        "stop- 1",
+        "fail-b 0",
+        "fail-b 1000001",
         "reopen 4294967296",
         "reopen -1",
         "Stop 1",
@@ -139,6 +145,14 @@ fn lines_that_are_none_are_refused(rt: HostRuntime) -> Result<(), Fail> {
         (
             "stop 1000000\nfail 1000000\nreopen 4294967295",
             "set\nset\nreopened 0\n",
+        ),
+        (
+            "stop-b 1000000\nfail-b 1000000\nreopen 0",
+            "set\nset\nreopened 0\n",
+        ),
+        (
+            "stop-b 0\nfail-b 1\n1 register 1 C\nreopen 1",
+            "set\nset\n1 ok 1\nreopened 1\n",
         ),
     ] {
         assert_eq!(rt; drilled(&rt, alloc, script)?.as_str(), replies);

@@ -1,5 +1,6 @@
 -- A call on the store is one step more of its history, by each owner who may ask it.
 use Rattle.std.proofs.Common.{◌≡◌, ◌++◌, ◌∙◌, ap, Bool, List, [], ◌∷◌, None, Option, refl, Some, subst, sym, true, ℕ}
+use Rattle.std.proofs.lemmas.Bool.{false_from_ne_true}
 use Rattle.disk_edge.specs.Disk.{DiskModel}
 use Rattle.store_machine.specs.Machine.{FetchGives, Gives, Holds, UnpinGives}
 use Rattle.store_machine.specs.Owners.{OwnersAreFree, SameButOwners}
@@ -10,11 +11,13 @@ use Rattle.store_machine.specs.declared.machine.Reply.{Reply}
 use Rattle.store_machine.specs.declared.machine.Reply.TheVariants as reply
 use Rattle.store_machine.specs.declared.machine.State.{State}
 use Rattle.store_machine.specs.declared.machine.Step.{Step}
-use Rattle.store_core.specs.Calls.{Calls}
+use Rattle.store_core.specs.Calls.{Calls, WornAs}
 use Rattle.store_disk.specs.OnDisk.{StandsFor, StoreTerm}
 use Rattle.store_disk.specs.Stored.{Stretches, joins}
 use Rattle.hall.specs.declared.kept.Kept.{Kept}
+use Rattle.hall.specs.Answers.{TheCalls}
 use Rattle.hall.specs.Histories.{Adds, AsksNoOwner, MayAsk, after, told_of}
+use Rattle.hall.proofs.Calls.{IsCall, one-event}
 use Rattle.hall.proofs.Runs.{after-append, call_of, one-more, one-step}
 
 abbrev owner_in : Option Held → ℕ
@@ -84,12 +87,12 @@ module _ {D : Type 0} (model : DiskModel D) (asks : AsksNoOwner model) (a b : St
       }
 
 -- such a call adds its step
-pub adds : {D : Type 0} (model : DiskModel D) (old new : Kept D) (calls : List (Event × Reply)) → OwnersAreFree
+adds-one : {D : Type 0} (model : DiskModel D) (old new : Kept D) (calls : TheCalls) → OwnersAreFree
     → AsksNoOwner model → (p : Event × Reply) → calls ≡ p ∷ [] → told_of new ≡ calls
     → ((s : State) → StandsFor model old.store s
     → Calls (Stretches model) (λ _. true) old.store new.store s calls)
     → Adds model old new
-adds model old new calls free asks p one told call o h n kept may =
+adds-one model old new calls free asks p one told call o h n kept may =
     let s : State = after o.state h in
     let made = call s kept.stands.ends in
     let only = one-step made.steps p made.stands.calm (made.own ∙ one) in
@@ -113,3 +116,13 @@ adds model old new calls free asks p one told call o h n kept may =
             (sym (after-append h (y ∷ []) o.state)) whole;
       },
     )
+
+-- and a store is never worn
+pub adds : {D : Type 0} (model : DiskModel D) (old new : Kept D) (e : Event) (calls : TheCalls) (worn : Bool)
+    → OwnersAreFree → AsksNoOwner model → IsCall e calls worn → WornAs ⊥ ⊥ worn → told_of new ≡ calls
+    → ((s : State) → StandsFor model old.store s
+    → Calls (Stretches model) (λ _. true) old.store new.store s calls)
+    → Adds model old new
+adds model old new e calls worn free asks is never told call =
+    let one = one-event e calls worn is (false_from_ne_true worn never.1) in
+    adds-one model old new calls free asks (e, one.0) one.1 told call

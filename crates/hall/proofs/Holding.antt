@@ -1,62 +1,42 @@
 -- What each kind of call tells of the pins of a pass.
-use Rattle.std.proofs.Common.{◌≡◌, ◌⊎◌, ◌↔◌, ◌==◌, ◌∙◌, ap₂, eq-eqb, eqb-true, Err, false, inl, inr, [], ◌∷◌, None, Ok, Option, refl, Result, Some, subst, sym, ℕ}
+use Rattle.std.proofs.Common.{◌≡◌, ◌⊎◌, ◌↔◌, ◌==◌, ◌∙◌, ap₂, Bool, eq-eqb, eqb-true, Err, false, inl, inr, [], ◌∷◌, None, Ok, Option, refl, Result, Some, subst, sym, true, ℕ}
 use Rattle.std.proofs.lemmas.Bool.{false_from_ne_true, true≢false}
 use Rattle.snap_registry.specs.declared.Pin.{Pin as Ticket}
 use Rattle.store_machine.specs.Searches.{KeepsPin, unpins}
 use Rattle.store_machine.specs.declared.machine.Event.{Event}
-use Rattle.store_machine.specs.declared.machine.Event.TheVariants.{Commit, Pin, Unpin}
-use Rattle.store_machine.specs.declared.machine.Reply.{Reply}
+use Rattle.store_machine.specs.declared.machine.Event.TheVariants.{Pin, Unpin}
 use Rattle.store_machine.specs.declared.machine.Reply.TheVariants as reply
 use Rattle.store_core.specs.Calls.{IsReturned, IsTaken, NeedsNone, SameHeld}
-use Rattle.store_core.specs.Replies.{calls, change_of, commit_calls, pin_calls, unpin_calls}
+use Rattle.store_core.specs.Replies.{pin_calls, unpin_calls}
 use Rattle.store_core.specs.declared.words.CallFault.{CallFault}
 use Rattle.store_core.specs.declared.words.CallFault.TheVariants as call
-use Rattle.store_core.specs.declared.words.Change.{Change as Asked}
-use Rattle.store_core.specs.declared.words.CommitFault.{CommitFault}
-use Rattle.store_core.specs.declared.words.CommitFault.TheVariants as commit
 use Rattle.hall.specs.declared.hall.HallPass.{HallPass}
 use Rattle.hall.specs.Answers.{HasPins, Takes, TheCalls}
 use Rattle.hall.specs.Passes.{HoldsPin}
+use Rattle.hall.proofs.Calls.{IsCall}
 
--- no call, or one of this event
-abbrev pub IsOne : Event → TheCalls → Type 0
-IsOne e cs = (cs ≡ []) ⊎ ((r : Reply) × (cs ≡ (e, r) ∷ []))
+keeps-one : (e : Event) (cs : TheCalls) (worn : Bool) (slot : ℕ) → IsCall e cs worn → unpins slot e ≡ false
+    → KeepsPin slot cs
+keeps-one e cs true slot none keeps = subst (KeepsPin slot) (sym none) tt
+keeps-one e cs false slot one keeps = subst (KeepsPin slot) (sym one.1) (keeps, tt)
 
-pub commit-is-one : (c : Asked) (a : Result ℕ CommitFault) → IsOne (Commit (change_of c)) (commit_calls c a)
-commit-is-one c (Ok version) = inr (reply.Committed version, refl)
-commit-is-one c (Err commit.Known) = inr (reply.Known, refl)
-commit-is-one c (Err commit.Absent) = inr (reply.Absent, refl)
-commit-is-one c (Err commit.Withdrawn) = inr (reply.Withdrawn, refl)
-commit-is-one c (Err commit.Full) = inr (reply.Full, refl)
-commit-is-one c (Err (commit.DiskFault doubt)) = inr (reply.DiskFault doubt, refl)
-commit-is-one c (Err commit.Worn) = inl refl
-commit-is-one c (Err commit.NoMemory) = inr (reply.NoMemory, refl)
-
-pub call-is-one : {X : Type 0} (e : Event) (of : X → Reply) (a : Result X CallFault) → IsOne e (calls e of a)
-call-is-one e of (Ok x) = inr (of x, refl)
-call-is-one e of (Err call.Worn) = inl refl
-call-is-one e of (Err call.NoMemory) = inr (reply.NoMemory, refl)
-
-keeps-one : (e : Event) (cs : TheCalls) (slot : ℕ) → IsOne e cs → unpins slot e ≡ false → KeepsPin slot cs
-keeps-one e cs slot (inl none) keeps = subst (KeepsPin slot) (sym none) tt
-keeps-one e cs slot (inr one) keeps = subst (KeepsPin slot) (sym one.1) (keeps, tt)
-
-takes-none : (e : Event) (cs : TheCalls) (slot version : ℕ) → IsOne e cs → (e ≡ Pin → ⊥) → Takes cs slot version → ⊥
-takes-none e cs slot version (inl none) other t = subst (λ l. Takes l slot version) none t
-takes-none e cs slot version (inr one) other t =
+takes-none : (e : Event) (cs : TheCalls) (worn : Bool) (slot version : ℕ) → IsCall e cs worn → (e ≡ Pin → ⊥)
+    → Takes cs slot version → ⊥
+takes-none e cs true slot version none other t = subst (λ l. Takes l slot version) none t
+takes-none e cs false slot version one other t =
     let u : Takes ((e, one.0) ∷ []) slot version = subst (λ l. Takes l slot version) one.1 t in
     elim u [ inl x ↦ other x.0 | inr x ↦ x ]
 
 module _ {D : Type 0} (p q : HallPass D) where
   -- a call that is no Pin and no Unpin
-  pub same-held : (e : Event) (cs : TheCalls) → HasPins p q cs → IsOne e cs → ((slot : ℕ) → unpins slot e ≡ false)
-      → (e ≡ Pin → ⊥) → SameHeld (HoldsPin p) (HoldsPin q)
-  same-held e cs pins one keeps other slot version = (
+  pub same-held : (e : Event) (cs : TheCalls) (worn : Bool) → HasPins p q cs → IsCall e cs worn
+      → ((slot : ℕ) → unpins slot e ≡ false) → (e ≡ Pin → ⊥) → SameHeld (HoldsPin p) (HoldsPin q)
+  same-held e cs worn pins is keeps other slot version = (
     λ k. elim (pins.before slot version k) [
       | inl b ↦ b.0
-      | inr t ↦ absurd (takes-none e cs slot version one other t)
+      | inr t ↦ absurd (takes-none e cs worn slot version is other t)
     ],
-    λ k. pins.kept slot version k (keeps-one e cs slot one (keeps slot)),
+    λ k. pins.kept slot version k (keeps-one e cs worn slot is (keeps slot)),
   )
 
   pub pin-held : (a : Result (Option Ticket) CallFault) → HasPins p q (pin_calls a) → NeedsNone a

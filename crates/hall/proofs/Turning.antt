@@ -14,15 +14,17 @@ use Rattle.turn_gate.specs.Numbers.{has, own}
 use Rattle.turn_gate.specs.Passes as gate
 use Rattle.turn_gate.specs.Steps.{Sat}
 use Rattle.turn_gate.specs.declared.gate.Pass.{Pass}
-use Rattle.turn_gate.proofs.Lists.{single_is}
+use Rattle.turn_gate.proofs.Lists.{has_head, single_is}
 use Rattle.hall.specs.declared.hall.Hall.{Hall}
 use Rattle.hall.specs.declared.hall.HallPass.{HallPass}
 use Rattle.hall.specs.declared.kept.Kept.{Kept}
 use Rattle.hall.specs.declared.kept.Origin.{Origin}
 use Rattle.hall.specs.Answers.{HasPins, IsAnswered, Made, Takes, TheCalls}
 use Rattle.hall.specs.Desks.{IsAt, Stays, Stretches}
-use Rattle.hall.specs.Histories.{Adds, KeptFor, MayTell, Tells, after, told_of}
+use Rattle.hall.specs.Histories.{Adds, KeptFor, MayAsk, MayTell, Tells, after, told_of}
 use Rattle.hall.specs.Passes.{HoldsPin, IsFrom, IsOf, by, known}
+use Rattle.hall.proofs.Asking.{may-call}
+use Rattle.hall.proofs.Calls.{IsCall}
 use Rattle.hall.proofs.Numbers.{no-calls}
 use Rattle.hall.proofs.Pins.{held-before, took-one}
 use Rattle.hall.proofs.Runs.{call_of, calm-parts, run-parts}
@@ -208,7 +210,7 @@ module _ {D : Type 0} (model : DiskModel D) where
       (subst (KeepsPin slot) (sym (no-calls (known p).numbers sees.more sees.others)) tt)
 
   -- the event by which a turn is ended
-  pub names-of : (p : HallPass D) (n : Pass (Kept D) Step (Origin D)) (v w : Kept D) (owner : ℕ)
+  names-of : (p : HallPass D) (n : Pass (Kept D) Step (Origin D)) (v w : Kept D) (owner : ℕ)
       (sees : gate.Sees (KeptFor model) by p.pass v n) → Adds model v w → has (known p).numbers owner ≡ true
       → MayTell (after sees.origin.state ((known p).seen ++ sees.more)) owner w
       → gate.Names (KeptFor model) Tells by n w
@@ -225,6 +227,26 @@ module _ {D : Type 0} (model : DiskModel D) where
         is_own = ap (λ (l : List ℕ). has l (by more.0)) numbers ∙ (ap (has (known p).numbers) more.1 ∙ mine);
         standing = subst (λ (l : List Step). KeptFor model o w (l ++ more.0 ∷ [])) (sym seen) more.3;
       }
+
+  -- it is of a number of the pass that may ask it
+  pub names-call : (p : HallPass D) (n : Pass (Kept D) Step (Origin D)) (u v w : Kept D) (e : Event) (calls : TheCalls)
+      (worn : Bool) (owner : ℕ) (sees : gate.Sees (KeptFor model) by p.pass v n) → u ≡ v → Adds model u w
+      → IsCall e calls worn → worn ≡ false → told_of w ≡ calls → has (known p).numbers owner ≡ true
+      → MayAsk (after sees.origin.state ((known p).seen ++ sees.more)) owner e
+      → gate.Names (KeptFor model) Tells by n w
+  names-call p n u v w e calls worn owner sees same adds is not_worn told mine may =
+      names-of p n v w owner sees (subst (λ (k : Kept D). Adds model k w) same adds) mine
+      (may-call w e calls worn is not_worn told (after sees.origin.state ((known p).seen ++ sees.more)) owner may)
+
+  -- or of its first number, where anybody may ask it
+  pub names-anyones : (h : Hall D) (p : HallPass D) (n : Pass (Kept D) Step (Origin D)) (u v w : Kept D) (e : Event)
+      (calls : TheCalls) (worn : Bool) → IsOf h p → gate.Sees (KeptFor model) by p.pass v n → u ≡ v → Adds model u w
+      → IsCall e calls worn → worn ≡ false → told_of w ≡ calls → ((s : State) (owner : ℕ) → MayAsk s owner e)
+      → gate.Names (KeptFor model) Tells by n w
+  names-anyones h p n u v w e calls worn of sees same adds is not_worn told may =
+      let number = has_head (known p).numbers of.numbered in
+      names-call p n u v w e calls worn number.0 sees same adds is not_worn told number.1
+      (may (after sees.origin.state ((known p).seen ++ sees.more)) number.0)
 
   -- the turn is over
   ended : PinsStay → (h : Hall D) (p q : HallPass D) (n : Pass (Kept D) Step (Origin D)) (v w : Kept D) (count : ℕ)

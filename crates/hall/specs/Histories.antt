@@ -9,7 +9,7 @@ use Rattle.store_machine.specs.declared.machine.Event.TheVariants.{Fetch, Unpin}
 use Rattle.store_machine.specs.declared.machine.Reply.{Reply}
 use Rattle.store_machine.specs.declared.machine.State.{State}
 use Rattle.store_machine.specs.declared.machine.Step.{Step}
-use Rattle.store_core.specs.Replies.{commit_calls, fetch_calls, look_calls, pin_calls, prune_calls, stats_calls, unpin_calls}
+use Rattle.store_core.specs.Replies.{commit_calls, compact_calls, fetch_calls, look_calls, pin_calls, prune_calls, stats_calls, unpin_calls}
 use Rattle.store_disk.specs.OnDisk.{StandsFor, StoreTerm}
 use Rattle.store_disk.specs.Stored.{Stretches}
 use Rattle.hall.specs.declared.kept.Kept.{Kept}
@@ -32,6 +32,7 @@ calls_told (told.Unpin slot answer) = unpin_calls slot answer.value
 calls_told (told.Prune answer) = prune_calls answer.value
 calls_told (told.Look id answer) = look_calls id answer.value
 calls_told (told.Stats answer) = stats_calls answer.value
+calls_told (told.Compact answer) = compact_calls answer.value
 
 module _ {D : Type 0} where
   abbrev pub told_of : Kept D → List (Event × Reply)

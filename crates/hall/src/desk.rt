@@ -9,7 +9,9 @@ use disk_edge::Disk;
 use snap_registry::Pin;
 use std::sync::Wait;
 use std::sync::ledger::Ledger;
-use store_core::{CallFault, Change, CommitFault, Look, Page, Service, Stats, Steps};
+use store_core::{
+    CallFault, Change, CommitFault, Compact, CompactFault, Look, Page, Service, Stats, Steps,
+};
 
 /// A pass at its hall. Each call waits for a turn and is one event of the hall's history, which begins with all that the
 /// pass had seen; the pass has then seen that history and its event. Each call is answered `Worn` exactly where the
@@ -107,6 +109,10 @@ impl<'h, R: Wait, D: Disk + Drop> Service for Desk<'h, R, D> {
 
     fn stats(&mut self) -> Result<Stats, CallFault> {
         self.hall.stats(self.rt, &mut self.pass)
+    }
+
+    fn compact(&mut self) -> Result<Compact, CompactFault> {
+        self.hall.compact(self.rt, &mut self.pass)
     }
 
     ghost stays = { λ a. stays (pass_of a) };

@@ -1,9 +1,9 @@
 //! What is under the gate of a hall: the store, and the last call on it, which only contracts read.
 ghost use Rattle.std.specs.Prelude.{◌≡◌, ◌≤◌, ◌++◌, [], All, false, IfOk, length, List, OnErr, ℕ};
 ghost use Rattle.std.specs.Arc.{arc_value};
-ghost use Rattle.store_core.specs.Calls.{NeedsNone, is_worn, is_worn_out};
+ghost use Rattle.store_core.specs.Calls.{NeedsNone, is_compact_worn, is_worn, is_worn_out};
 ghost use Rattle.store_core.specs.Records.{Shared};
-ghost use Rattle.store_core.specs.Replies.{IsLookOf, commit_calls, fetch_calls, look_calls, pin_calls, prune_calls, stats_calls, unpin_calls};
+ghost use Rattle.store_core.specs.Replies.{IsLookOf, commit_calls, compact_calls, fetch_calls, look_calls, pin_calls, prune_calls, stats_calls, unpin_calls};
 ghost use Rattle.store_core.specs.Stored.{HoldsPin};
 ghost use Rattle.store_core.specs.declared.page.TheConstants.{MOST_RECORDS};
 ghost use Rattle.store_machine.specs.History.{IsId};
@@ -15,7 +15,9 @@ use disk_edge::Disk;
 use snap_registry::Pin;
 use std::snapshot::Snapshot;
 use std::sync::ledger::Ledger;
-use store_core::{CallFault, Change, CommitFault, Look, Page, Service, Stats, Steps};
+use store_core::{
+    CallFault, Change, CommitFault, Compact, CompactFault, Look, Page, Service, Stats, Steps,
+};
 use store_disk::Store;
 use store_machine::{State, Step};
 use turn_gate::Stands;
@@ -58,6 +60,9 @@ pub enum Told {
     },
     Stats {
         answer: Snapshot<Result<Stats, CallFault>>,
+    },
+    Compact {
+        answer: Snapshot<Result<Compact, CompactFault>>,
     },
 }
 
@@ -221,6 +226,19 @@ impl<D: Disk + Drop> Kept<D> {
         laws::<D>();
         let answer = self.store.stats();
         self.told = Snapshot::of(&Told::Stats {
+            answer: Snapshot::of(&answer),
+        });
+        answer
+    }
+
+    pub(crate) fn compact(&mut self) -> Result<Compact, CompactFault>
+        ensures adds { Adds D.model self.old self.new }
+        ensures told { told_of self.new ≡ compact_calls result }
+        ensures not_worn { is_compact_worn result ≡ false }
+    {
+        laws::<D>();
+        let answer = self.store.compact();
+        self.told = Snapshot::of(&Told::Compact {
             answer: Snapshot::of(&answer),
         });
         answer

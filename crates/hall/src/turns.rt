@@ -1,9 +1,9 @@
 //! The calls of a pass: each is one turn on the store. Its turn has ended when a call returns.
 ghost use Rattle.std.specs.Prelude.{◌≡◌, ◌≤◌, [], All, IfOk, length, OnErr};
 ghost use Rattle.std.specs.Arc.{arc_value};
-ghost use Rattle.store_core.specs.Calls.{NeedsNone, is_worn, is_worn_out};
+ghost use Rattle.store_core.specs.Calls.{NeedsNone, is_compact_worn, is_worn, is_worn_out};
 ghost use Rattle.store_core.specs.Records.{Shared};
-ghost use Rattle.store_core.specs.Replies.{IsLookOf, commit_calls, fetch_calls, look_calls, pin_calls, prune_calls, stats_calls, unpin_calls};
+ghost use Rattle.store_core.specs.Replies.{IsLookOf, commit_calls, compact_calls, fetch_calls, look_calls, pin_calls, prune_calls, stats_calls, unpin_calls};
 ghost use Rattle.store_core.specs.declared.page.TheConstants.{MOST_RECORDS};
 ghost use Rattle.store_machine.specs.History.{IsId};
 ghost use Rattle.hall.specs.Answers.{IsAnswered};
@@ -16,7 +16,7 @@ use disk_edge::Disk;
 use snap_registry::Pin;
 use std::sync::Wait;
 use std::sync::ledger::Ledger;
-use store_core::{CallFault, Change, CommitFault, Look, Page, Stats, Steps};
+use store_core::{CallFault, Change, CommitFault, Compact, CompactFault, Look, Page, Stats, Steps};
 
 impl<D: Disk + Drop> Hall<D> {
     pub(crate) fn commit<R: Wait>(
@@ -167,6 +167,26 @@ impl<D: Disk + Drop> Hall<D> {
             Err(_) => return Err(CallFault::Worn),
         };
         let answer = turn.value().stats();
+        turn.end();
+        answer
+    }
+
+    pub(crate) fn compact<R: Wait>(
+        &self,
+        rt: &R,
+        pass: &mut HallPass<D>,
+    ) -> Result<Compact, CompactFault>
+        requires of { IsOf self.now pass.old }
+        ensures of { IsOf self.now pass.new }
+        ensures answered { IsAnswered pass.old pass.new
+            (compact_calls result) (is_compact_worn result) }
+    {
+        laws::<D>();
+        let mut turn = match pass.pass.turn(rt, &self.gate) {
+            Ok(turn) => turn,
+            Err(_) => return Err(CompactFault::Worn),
+        };
+        let answer = turn.value().compact();
         turn.end();
         answer
     }

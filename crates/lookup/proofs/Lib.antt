@@ -6,7 +6,6 @@ pub mod Picked
 pub mod Offered
 pub mod Prints
 pub mod Parting
-pub mod Answers
 pub mod Scored
 pub mod Truth
 pub mod Atoms

@@ -10,10 +10,10 @@ use Rattle.path_print.specs.Prints.{IsPrint}
 use Rattle.similar_find.specs.Board.{AreOffers, Offer}
 use Rattle.similar_find.specs.Score.{all_bits}
 use Rattle.store_machine.proofs.Members.{contains-here, contains-split, contains-there}
+use Rattle.store_machine.proofs.Picks.{Rising}
 use Rattle.store_machine.specs.Answers.{ids}
 use Rattle.store_machine.specs.declared.machine.Found.{Found}
 use Rattle.lookup.specs.Asked.{AreScored, IsScored}
-use Rattle.lookup.proofs.Answers.{Rising}
 use Rattle.lookup.proofs.Picked.{OneStructure}
 
 first-le : (a b : Bool) → cond a 1 0 ≤ cond (a || b) 1 0

@@ -1,5 +1,6 @@
 -- What lookups list is what the history has.
-use Rattle.std.proofs.Common.{◌≡◌, ◌≤◌, ◌↔◌, ◌∙◌, Bool, List, map, Some, subst, sym, ℕ}
+use Rattle.std.proofs.Common.{◌≡◌, ◌≤◌, ◌↔◌, ◌∙◌, Bool, inl, inr, List, [], ◌∷◌, map, Some, subst, sym, ℕ}
+use Rattle.std.proofs.lemmas.List.{length-map}
 use Rattle.std.specs.FinMap.{get}
 use Rattle.std.specs.List.Sorted.{IsStrictlyIncreasing}
 use Rattle.chem_core.specs.Bits.{HasBit, set_bits}
@@ -16,9 +17,9 @@ use Rattle.store_machine.specs.Structures.{HasPrintBit, IsScreened}
 use Rattle.store_machine.specs.declared.machine.Found.{Found}
 use Rattle.store_machine.specs.declared.machine.History.{History}
 use Rattle.store_machine.specs.declared.machine.Status.TheVariants.{Live}
-use Rattle.lookup.specs.Asked.{AreScored, IsSameAs}
+use Rattle.store_machine.proofs.Picks.{Picks, found-tried, picked-answers, rising-from}
+use Rattle.lookup.specs.Asked.{ArePicked, AreScored, IsSameAs}
 use Rattle.lookup.specs.Truths.{AreAllOffered, SamesAreAnswers, SimilarsAreAnswers}
-use Rattle.lookup.proofs.Answers.{found-tried, ids-length, picked-answers, rising-from}
 use Rattle.lookup.proofs.Parting.{Laws, all_found}
 use Rattle.lookup.proofs.Picked.{OneStructure}
 use Rattle.lookup.proofs.Scored.{are-offers, scored-all, scored-ids, scored-length, scored-only}
@@ -35,6 +36,12 @@ abbrev pub HaveBits : Type 0
 HaveBits = (text : List ℕ) (m : Molecule) (print : List Bool) → IsStructureOf text m → IsPrint m print
     → 1 ≤ set_bits print
 
+picks : (Asked : Format → List ℕ → Type 0) (rs : List Found) (hits : List ℕ) → ArePicked Asked rs hits
+    → Picks Asked rs hits
+picks Asked [] hits m = m
+picks Asked (r ∷ rs) hits (inl m) = inl (m.0, m.1, m.2, picks Asked rs m.1 m.3)
+picks Asked (r ∷ rs) hits (inr m) = inr (m.0, picks Asked rs hits m.1)
+
 pub sames-are-answers : Laws → AreMolecules → HaveEqualPrints → SamesAreAnswers
 sames-are-answers laws molecules prints s t size slot version pages m print list run is_m print_is l =
     let rs = records_of (fetched slot pages) in
@@ -47,11 +54,12 @@ sames-are-answers laws molecules prints s t size slot version pages m print list
     ) in
     record {
       are = subst (λ (v : ℕ). AreAnswers (IsSameAs m) t.history v list.hits.items) (sym l.version_is)
-          (picked-answers (IsSameAs m) print t.history version rs list.hits.items screened found l.hits);
+          (picked-answers (IsSameAs m) print t.history version rs list.hits.items screened found
+          (picks (IsSameAs m) rs list.hits.items l.hits));
       screened = ids rs;
       all = subst (λ (v : ℕ). AreTried t.history v print (ids rs)) (sym l.version_is)
           (found-tried print t.history version rs found);
-      count = l.tried ∙ sym (ids-length rs);
+      count = l.tried ∙ sym (length-map rs (λ (r : Found). r.id));
     }
 
 all-offered : OneStructure → (want print : List Bool) (h : History) (v : ℕ) (rs : List Found) (offers : List Offer)

@@ -1,33 +1,11 @@
 -- Calls of one caller in stretches that follow each other.
-use Rattle.std.proofs.Common.{◌≡◌, ◌&&◌, ◌++◌, ◌∙◌, ap, ap₂, Bool, false, if◌then◌else◌, List, [], ◌∷◌, refl, sym, true, ℕ}
+use Rattle.std.proofs.Common.{◌≡◌, ◌++◌, ◌∙◌, ap₂, List, [], refl, sym, ℕ}
 use Rattle.store_core.specs.declared.service.Service as meaning
-use Rattle.store_machine.specs.Runs.{IsCalm, IsRun, calls_of, is_call, is_own}
-use Rattle.store_machine.specs.declared.machine.Event.{Event}
-use Rattle.store_machine.specs.declared.machine.Reply.{Reply}
+use Rattle.store_machine.specs.Runs.{IsCalm, IsRun}
 use Rattle.store_machine.specs.declared.machine.State.{State}
 use Rattle.store_machine.specs.declared.machine.Step.{Step}
+use Rattle.store_machine.proofs.Joins.{calls-append, calls-same}
 use Rattle.par_search.specs.Fetches.{Calls, Makes}
-
-chosen : (b : Bool) (c : Event × Reply) (xs ys zs : Calls) → zs ≡ xs ++ ys
-    → (if b then c ∷ zs else zs) ≡ (if b then c ∷ xs else xs) ++ ys
-chosen true c xs ys zs e = ap (λ l. c ∷ l) e
-chosen false c xs ys zs e = e
-
-calls-append : (own : ℕ → Bool) (xs ys : List Step) → calls_of own (xs ++ ys) ≡ calls_of own xs ++ calls_of own ys
-calls-append own [] ys = refl
-calls-append own (x ∷ xs) ys =
-    chosen (is_own own x) (x.event, x.reply) (calls_of own xs) (calls_of own ys) (calls_of own (xs ++ ys))
-    (calls-append own xs ys)
-
-chosen_alike : (a b : Bool) (c : Event × Reply) (xs ys : Calls) → a ≡ b → xs ≡ ys
-    → (if a then c ∷ xs else xs) ≡ (if b then c ∷ ys else ys)
-chosen_alike a b c xs ys e f = ap₂ (λ (u : Bool) (l : Calls). if u then c ∷ l else l) e f
-
-calls-same : (own own' : ℕ → Bool) → ((n : ℕ) → own' n ≡ own n) → (xs : List Step) → calls_of own' xs ≡ calls_of own xs
-calls-same own own' h [] = refl
-calls-same own own' h (x ∷ xs) =
-    chosen_alike (is_own own' x) (is_own own x) (x.event, x.reply) (calls_of own' xs) (calls_of own xs)
-    (ap (λ b. is_call x.event && b) (h x.owner)) (calls-same own own' h xs)
 
 module _ {S : Type 0} {of : meaning.Ghosts S} where
   -- no call

@@ -62,18 +62,27 @@ fetches_lost slot size from want start pages all h =
     fetches-append slot size want start (At from) (At from) pages _ all h
     (from, refl, refl, inl (refl, refl, refl))
 
--- the records with those of a page more
+abbrev pub page_at : ℕ → ℕ → List Bool → List Found → Bool → Fetched
+page_at size from want records last =
+    record { want = want; from = from; limit = size; records = records; last = last }
+
+-- the pages with one more, and their records
+pub fetched_page : (slot size from : ℕ) (want : List Bool) (pages : Calls) (records : List Found) (last : Bool)
+    → fetched slot (pages ++ (Fetch slot want from size, replies.Page records last) ∷ [])
+    ≡ fetched slot pages ++ page_at size from want records last ∷ []
+fetched_page slot size from want pages records last =
+    let f : Fetched = page_at size from want records last in
+    let call : Event × Reply = (Fetch slot want from size, replies.Page records last) in
+    let page : page_in slot call.0 call.1 ≡ Some f = cond-true (slot == slot) (Some f) None (eq-eqb slot slot refl) in
+    let one : fetched slot (call ∷ []) ≡ f ∷ [] = ap (λ (o : Option Fetched). cons_option o []) page in
+    fetched-append slot pages (call ∷ []) ∙ ap (λ l. fetched slot pages ++ l) one
+
 pub records_page : (slot size from : ℕ) (want : List Bool) (pages : Calls) (records : List Found) (last : Bool)
     → records_of (fetched slot (pages ++ (Fetch slot want from size, replies.Page records last) ∷ []))
     ≡ records_of (fetched slot pages) ++ records
 records_page slot size from want pages records last =
-    let f : Fetched = record { want = want; from = from; limit = size; records = records; last = last } in
-    let call : Event × Reply = (Fetch slot want from size, replies.Page records last) in
-    let page : page_in slot call.0 call.1 ≡ Some f = cond-true (slot == slot) (Some f) None (eq-eqb slot slot refl) in
-    let one : fetched slot (call ∷ []) ≡ f ∷ [] = ap (λ (o : Option Fetched). cons_option o []) page in
-    let all : fetched slot (pages ++ call ∷ []) ≡ fetched slot pages ++ f ∷ [] =
-    fetched-append slot pages (call ∷ []) ∙ ap (λ l. fetched slot pages ++ l) one in
-    ap records_of all ∙ (records-append (fetched slot pages) (f ∷ [])
+    ap records_of (fetched_page slot size from want pages records last)
+    ∙ (records-append (fetched slot pages) (page_at size from want records last ∷ [])
     ∙ ap (λ l. records_of (fetched slot pages) ++ l) (append-nil records))
 
 -- which are those that there are, where it found no memory

@@ -11,7 +11,7 @@ use Rattle.std.specs.List.{AllPairs}
 use Rattle.std.specs.List.Sorted.{IsStrictlySortedBy}
 use Rattle.std.specs.Map.{keys_of}
 use Rattle.std.specs.declared.ops.Bound.TheVariants.{Included, Unbounded}
-use Rattle.record_versions.specs.Entries.{IsDead, IsLeastDead, IsLeastUnread, IsRead, IsUpTo, chain_of, entries_in, row_of}
+use Rattle.record_versions.specs.Entries.{IsDead, IsLeastDead, IsLeastId, IsLeastUnread, IsRead, IsUpTo, chain_of, entries_in, row_of}
 use Rattle.record_versions.specs.Rows.{Row}
 use Rattle.record_versions.specs.declared.chain.Entry.{Entry}
 
@@ -175,3 +175,31 @@ module _ {V : Type 0} where
   pub at-end : (live : List ℕ) (from : ℕ × ℕ) (all : List (ℕ × Row V)) → GoesOn live from all []
       → IsLeastDead live from all None
   at-end live from all go = go None (λ p up dead. omega (arith, dead.1.1))
+
+  -- an identifier has an entry, or none
+  some-or-none : (chains : List (ℕ × Row V)) (id : ℕ) → ((k : Entry V) → Contains (chain_of chains id) k → ⊥)
+      → chain_of chains id ≡ []
+  some-or-none chains id none = go (chain_of chains id) none
+    where
+      go : (ks : List (Entry V)) → ((k : Entry V) → Contains ks k → ⊥) → ks ≡ []
+      go [] none = refl
+      go (k ∷ ks) none = absurd (none k (0, omega arith, refl))
+
+  -- where nothing is read each entry is dead
+  all-dead : (chains : List (ℕ × Row V)) (id : ℕ) (k : Entry V) → Contains (chain_of chains id) k
+      → IsDead [] chains (id, k.version)
+  all-dead chains id k there = (k, there, refl, λ r. let c = r.1.1 in omega (arith, c))
+
+  pub no-id : (from : ℕ) (chains : List (ℕ × Row V)) → IsLeastDead [] (from, 0) chains None → IsLeastId from chains None
+  no-id from chains none id later = some-or-none chains id
+      (λ k there. none (id, k.version) (later, λ e. omega arith) (all-dead chains id k there))
+
+  pub least-id : (from id version : ℕ) (chains : List (ℕ × Row V))
+      → IsLeastDead [] (from, 0) chains (Some (id, version)) → IsLeastId from chains (Some id)
+  least-id from id version chains (up, dead, least) = (
+    up.0,
+    λ e. let c = (subst (λ ks. Contains ks dead.0) e dead.1).1 in omega (arith, c),
+    λ q later less. some-or-none chains q
+        (λ k there. let le = (least (q, k.version) (later, λ e. omega arith) (all-dead chains q k there)).0 in
+        omega (arith, le, less)),
+  )

@@ -1,5 +1,5 @@
 -- For callers: the entries of an identifier, which of them is read at a version, and which are dead.
-use Rattle.std.specs.Prelude.{◌≡◌, ◌==◌, ◌++◌, ◌<◌, ◌≤◌, All, Bool, Contains, length, List, [], ◌∷◌, map, not, None, Option, Some, true, ℕ}
+use Rattle.std.specs.Prelude.{◌≡◌, ◌==◌, ◌≢◌, ◌++◌, ◌<◌, ◌≤◌, All, Bool, Contains, length, List, [], ◌∷◌, map, not, None, Option, Some, true, ℕ}
 use Rattle.std.specs.BTreeMap.{is_at}
 use Rattle.std.specs.Map.{lookup}
 use Rattle.std.specs.Option.{IfSome, IsSomeAnd}
@@ -52,6 +52,12 @@ module _ {V : Type 0} where
   IsLeastDead live from chains None = (p : ℕ × ℕ) → IsUpTo from p → ¬ IsDead live chains p
   IsLeastDead live from chains (Some d) = IsUpTo from d × IsDead live chains d
       × ((p : ℕ × ℕ) → IsUpTo from p → IsDead live chains p → IsUpTo d p)
+
+  -- the least identifier from one on that has an entry; none where none has
+  abbrev pub IsLeastId : ℕ → List (ℕ × Row V) → Option ℕ → Type 0
+  IsLeastId from chains None = (id : ℕ) → from ≤ id → chain_of chains id ≡ []
+  IsLeastId from chains (Some least) = (from ≤ least) × (chain_of chains least ≢ [])
+      × ((id : ℕ) → from ≤ id → id < least → chain_of chains id ≡ [])
 
   abbrev pub is_other : ℕ → Entry V → Bool
   is_other version k = not (k.version == version)

@@ -1,7 +1,7 @@
 //! The entries of all identifiers, and which of them nobody reads any more.
 ghost use Rattle.std.specs.Prelude.{◌≡◌, ◌==◌, ◌≢◌, ◌+◌, ◌++◌, ◌<◌, ◌≤◌, ℕ, [], ◌∷◌, All, Contains, MatchOption, None, OnOk, Some, filter, if◌then◌else◌, length};
 ghost use Rattle.std.specs.List.{AllPairs};
-ghost use Rattle.record_versions.specs.Entries.{IsLatest, IsLeastDead, IsReserved, chain_of, entries, is_other};
+ghost use Rattle.record_versions.specs.Entries.{IsLatest, IsLeastDead, IsLeastId, IsReserved, chain_of, entries, is_other};
 
 use crate::chain::Chain;
 use crate::steps::Steps;
@@ -110,6 +110,15 @@ impl<V: Drop> Chains<V> {
             }
         }
         None
+    }
+
+    /// The least identifier from `from` on that has an entry. `None` exactly where none has one. It takes no memory.
+    pub fn next_id(&self, from: u32) -> Option<u32>
+        ensures { IsLeastId from self.now result }
+    {
+        // at no version every entry is dead
+        let (id, _) = self.dead_from((from, 0), &[])?;
+        Some(id)
     }
 
     /// Takes an entry out and gives its value. `None` exactly where the entry is not there. It takes no memory.

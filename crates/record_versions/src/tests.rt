@@ -49,6 +49,10 @@ fn an_entry_is_read_until_the_next_and_dead_where_nobody_reads_it(
     for (id, version, entry) in rows {
         assert_eq!(rt; look(&chains, id, version), entry, "{id} at {version}");
     }
+    chains.reserve(5)?;
+    for (from, id) in [(0, Some(2)), (3, Some(7)), (7, Some(7)), (8, None)] {
+        assert_eq!(rt; chains.next_id(from), id, "from {from} on");
+    }
     assert_eq!(rt; chains.dead(&[2, 3]), None);
     assert_eq!(rt; chains.dead(&[1, 3]), None);
     assert_eq!(rt; chains.dead(&[1]), Some((2, 2)));

@@ -108,6 +108,11 @@ quiet_call (events.Look id) (replies.Looked state) said (inr e) =
     is e refl (λ s. refl) (λ s. refl) tt (λ v k. absurd k)
 quiet_call (events.Look id) replies.NoMemory said e = is e refl (λ s. refl) (λ s. refl) tt (λ v k. k)
 quiet_call events.Prune (replies.Pruned count) said e = is e refl (λ s. refl) (λ s. refl) tt (λ v k. k)
+quiet_call events.Compact (replies.More left) said e = is e refl (λ s. refl) (λ s. refl) tt (λ v k. k)
+quiet_call events.Compact (replies.Done generation) said e = is e refl (λ s. refl) (λ s. refl) tt (λ v k. k)
+quiet_call events.Compact replies.Last said e = is e refl (λ s. refl) (λ s. refl) tt (λ v k. k)
+quiet_call events.Compact (replies.DiskFault doubt) said e = is e refl (λ s. refl) (λ s. refl) tt (λ v k. k)
+quiet_call events.Compact replies.NoMemory said e = is e refl (λ s. refl) (λ s. refl) tt (λ v k. k)
 quiet_call events.Stats (replies.Counted version live withdrawn kept pins) said e =
     is e refl (λ s. refl) (λ s. refl) tt (λ v k. k)
 quiet_call events.Pin replies.NoPin said e = is e refl (λ s. refl) (λ s. refl) tt (λ v k. k)

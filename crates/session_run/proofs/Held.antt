@@ -1,32 +1,9 @@
 -- Pins that are held: after calls, and of cursors.
-use Rattle.std.proofs.Common.{◌≡◌, ◌⊎◌, ◌++◌, ◌∙◌, arith, inl, inr, List, [], ◌∷◌, None, Option, refl, Some, subst, sym, ℕ}
-use Rattle.store_core.specs.Calls.{NotAbove, NotRaised, SameHeld}
+use Rattle.std.proofs.Common.{◌≡◌, ◌⊎◌, ◌++◌, ◌∙◌, inl, inr, List, [], ◌∷◌, refl, subst, sym, ℕ}
+use Rattle.store_core.specs.Calls.{SameHeld}
+pub use Rattle.par_search.proofs.Held.{held-same as same_held, held-more as same_held-more, not_raised-same}
 use Rattle.session_run.specs.Cursors.{Calls, Cursor}
 use Rattle.session_run.specs.Pins.{AreApart, AreHeld, Effect, HasSlot, HeldAfter, HeldBy, IsApart, Leaves, MovePins, Returns, SameOthers, Takes, effect}
-
-not_above-same : (a : Option ℕ) → NotAbove a a
-not_above-same None = tt
-not_above-same (Some n) = omega arith
-
-pub not_raised-same : (a : Option ℕ × Option ℕ) → NotRaised a a
-not_raised-same a = (not_above-same a.0, not_above-same a.1)
-
-not_above-more : (a b c : Option ℕ) → NotAbove a b → NotAbove b c → NotAbove a c
-not_above-more None b c h k = tt
-not_above-more (Some n) None c h k = absurd h
-not_above-more (Some n) (Some m) None h k = absurd k
-not_above-more (Some n) (Some m) (Some l) h k = omega (arith, h, k)
-
-pub not_raised-more : (a b c : Option ℕ × Option ℕ) → NotRaised a b → NotRaised b c → NotRaised a c
-not_raised-more a b c h k = (not_above-more a.0 b.0 c.0 h.0 k.0, not_above-more a.1 b.1 c.1 h.1 k.1)
-
--- Pins after calls
-pub same_held : (a : ℕ → ℕ → Type 0) → SameHeld a a
-same_held a slot version = (λ h. h, λ h. h)
-
-pub same_held-more : (a b c : ℕ → ℕ → Type 0) → SameHeld a b → SameHeld b c → SameHeld a c
-same_held-more a b c h k slot version =
-    (λ x. (h slot version).0 ((k slot version).0 x), λ x. (k slot version).1 ((h slot version).1 x))
 
 by-under : (a b : ℕ → ℕ → Type 0) (e : Effect) → ((s v : ℕ) → a s v → b s v) → (s v : ℕ) → HeldBy a e s v
     → HeldBy b e s v

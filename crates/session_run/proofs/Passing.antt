@@ -1,9 +1,11 @@
 -- What is known of an open cursor by the calls so far, how it goes on by its pages, and calls that pass its pin by.
-use Rattle.std.proofs.Common.{◌≡◌, ◌≢◌, ◌⊎◌, ◌++◌, ◌+◌, ◌==◌, ◌∙◌, ap, ap₂, append-nil, append_assoc, arith, Bool, cond, Contains, eq-eqb, false, inl, inr, length, length-append, List, [], ◌∷◌, map, ne_eqb, None, Option, refl, Some, subst, sym, true, ℕ}
-use Rattle.std.proofs.lemmas.Bool.{cond-false, cond-true}
+use Rattle.std.proofs.Common.{◌≡◌, ◌≢◌, ◌⊎◌, ◌++◌, ◌+◌, ◌==◌, ◌∙◌, ap, append-nil, append_assoc, arith, Bool, cond, Contains, false, inl, inr, length, length-append, List, [], ◌∷◌, map, ne_eqb, None, Option, refl, Some, subst, sym, true, ℕ}
+use Rattle.std.proofs.lemmas.Bool.{cond-false}
 use Rattle.std.proofs.lemmas.List.Elements.{Contains-append_cases, Contains-push_cases}
 use Rattle.std.specs.List.{AllByRecursion, cons_option}
+use Rattle.par_search.proofs.Paged.{fetched_page, records_page}
 use Rattle.lookup.specs.Fetches.{AreFetches}
+pub use Rattle.lookup.proofs.Parting.{fetches_keep, fetches_search}
 use Rattle.shell_lang.specs.Reply as line
 use Rattle.store_machine.specs.Answers.{AreMatched}
 use Rattle.store_machine.specs.Searches.{At, End, Fetched, IsSearch, KeepsPin, Place, fetched, page_in, past, records_of, unpins}
@@ -16,7 +18,7 @@ use Rattle.store_machine.specs.declared.machine.Reply.TheVariants as replies
 use Rattle.session_run.specs.Acts.{Advances, Ended, Lines, Lost, Paged, after_page, page_end}
 use Rattle.session_run.specs.Cursors.{Calls, Cursor}
 use Rattle.session_run.specs.Dialogue.{hits_in}
-use Rattle.session_run.proofs.Listings.{fetched-append, matched-append, records-append, search-append}
+use Rattle.session_run.proofs.Listings.{fetched-append, matched-append, search-append}
 
 -- Calls that neither give a pin back nor are answered by a page of it
 abbrev pub PassBy : ℕ → Calls → Type 0
@@ -39,11 +41,7 @@ pub passes-append : (slot : ℕ) (xs ys : Calls) → PassBy slot xs → PassBy s
 passes-append slot [] ys h k = k
 passes-append slot (x ∷ xs) ys h k = (h.0, h.1, passes-append slot xs ys h.2 k)
 
--- a pin's fetches give no pin back, and are no pages of another
-fetch_keeps : (slot size from other : ℕ) (want : List Bool) (e : Event) → e ≡ Fetch slot want from size
-    → unpins other e ≡ false
-fetch_keeps slot size from other want e is = ap (λ (x : Event). unpins other x) is
-
+-- a pin's fetches are no pages of another
 no_page : (other pin : ℕ) (asked : List Bool) (from limit : ℕ) (r : Reply) → (pin == other) ≡ false
     → page_in other (Fetch pin asked from limit) r ≡ None
 no_page other pin asked from limit (replies.Page records last) h =
@@ -57,44 +55,19 @@ fetch_none : (slot size from other : ℕ) (want : List Bool) (e : Event) (r : Re
 fetch_none slot size from other want e r apart is =
     ap (λ (x : Event). page_in other x r) is ∙ no_page other slot want from size r (ne_eqb slot other apart)
 
-pub fetches_keep : (slot size other : ℕ) (want : List Bool) (place place' : Place) (cs : Calls)
-    → AreFetches slot size want place cs place' → KeepsPin other cs
-fetches_keep slot size other want place place' [] h = tt
-fetches_keep slot size other want place place' (c ∷ cs) (from, at, is, inl k) =
-    (fetch_keeps slot size from other want c.0 is, subst (KeepsPin other) (sym k.1) tt)
-fetches_keep slot size other want place place' (c ∷ cs) (from, at, is, inr k) =
-    (fetch_keeps slot size from other want c.0 is, fetches_keep slot size other want (cond k.1 End (At (past from k.0))) place' cs k.3)
-
 pub fetches_pass : (slot size other : ℕ) (want : List Bool) (place place' : Place) (cs : Calls) → slot ≢ other
     → AreFetches slot size want place cs place' → PassBy other cs
 fetches_pass slot size other want place place' [] apart h = tt
 fetches_pass slot size other want place place' (c ∷ cs) apart (from, at, is, inl k) = (
-  fetch_keeps slot size from other want c.0 is,
+  ap (λ (e : Event). unpins other e) is,
   fetch_none slot size from other want c.0 c.1 apart is,
   subst (PassBy other) (sym k.1) tt,
 )
 fetches_pass slot size other want place place' (c ∷ cs) apart (from, at, is, inr k) = (
-  fetch_keeps slot size from other want c.0 is,
+  ap (λ (e : Event). unpins other e) is,
   fetch_none slot size from other want c.0 c.1 apart is,
   fetches_pass slot size other want (cond k.1 End (At (past from k.0))) place' cs apart k.3,
 )
-
--- the pages that they gave are those of the search
-pub fetches_search : (slot size : ℕ) (want : List Bool) (place place' : Place) (cs : Calls)
-    → AreFetches slot size want place cs place' → IsSearch want place (fetched slot cs) place'
-fetches_search slot size want place place' [] h = h
-fetches_search slot size want place place' (c ∷ cs) (from, at, is, inl k) =
-    let none : fetched slot (c ∷ cs) ≡ [] =
-    ap₂ (λ (o : Option Fetched) (l : List Fetched). cons_option o l)
-    (ap₂ (λ (e : Event) (r : Reply). page_in slot e r) is k.0) (ap (λ (l : Calls). fetched slot l) k.1) in
-    subst (λ (fs : List Fetched). IsSearch want place fs place') (sym none) k.2
-fetches_search slot size want place place' (c ∷ cs) (from, at, is, inr k) =
-    let f : Fetched = record { want = want; from = from; limit = size; records = k.0; last = k.1 } in
-    let page : page_in slot c.0 c.1 ≡ Some f =
-    ap₂ (λ (e : Event) (r : Reply). page_in slot e r) is k.2
-    ∙ cond-true (slot == slot) (Some f) None (eq-eqb slot slot refl) in
-    subst (λ (o : Option Fetched). IsSearch want place (cons_option o (fetched slot cs)) place') (sym page)
-    (at, refl, fetches_search slot size want (cond k.1 End (At (past from k.0))) place' cs k.3)
 
 -- By these calls the cursor's pin was taken and not given back, so many pages of a size brought its search to where it
 -- stands, and these are its hits
@@ -152,15 +125,11 @@ pub page_more : {size k : ℕ} {calls : Calls} {c : Cursor} {hits : List ℕ} (m
 page_more {size} {k} {calls} {c} {hits} more from records last e m o =
     let f : Fetched = page_of c size from records last in
     let call : Event × Reply = (Fetch c.slot c.want from size, replies.Page records last) in
-    let page : page_in c.slot call.0 call.1 ≡ Some f =
-    cond-true (c.slot == c.slot) (Some f) None (eq-eqb c.slot c.slot refl) in
-    let one : fetched c.slot (call ∷ []) ≡ f ∷ [] = ap (λ (o : Option Fetched). cons_option o []) page in
     let all : fetched c.slot (o.pages ++ call ∷ []) ≡ fetched c.slot o.pages ++ f ∷ [] =
-    fetched-append c.slot o.pages (call ∷ []) ∙ ap (λ (l : List Fetched). fetched c.slot o.pages ++ l) one in
+    fetched_page c.slot size from c.want o.pages records last in
     let records_are : records_of (fetched c.slot (o.pages ++ call ∷ [])) ≡ records_of
     (fetched c.slot o.pages) ++ records =
-    ap records_of all ∙ (records-append (fetched c.slot o.pages) (f ∷ [])
-    ∙ ap (λ (l : List Found). records_of (fetched c.slot o.pages) ++ l) (append-nil records)) in (
+    records_page c.slot size from c.want o.pages records last in (
       record {
         before = o.before;
         pages = o.pages ++ call ∷ [];

@@ -1,7 +1,7 @@
 -- For callers: what is done for a request and how it is answered. An act makes calls, with their replies in order, has
 -- reply lines, and leaves cursors and watches. A command allows some acts.
 -- Want of memory may take the place of a reply; the request has then done nothing, but a search may have listed some of
--- its hits.
+-- its hits, and a step of a compaction may have written some of its items.
 use Rattle.std.specs.Prelude.{◌≡◌, ◌≢◌, ◌⊎◌, ◌≤◌, ◌<◌, ℕ, suc, ◌+◌, Bool, true, false, if◌then◌else◌, List, [], ◌∷◌, ◌++◌, length, map, Option, None, Some, Result, Ok, Err}
 use Rattle.chem_core.specs.Molecule.{Molecule}
 use Rattle.io_edge.specs.Lines.{TextLine, Whole}
@@ -92,6 +92,11 @@ IsLineOf (events.Commit change) replies.NoMemory said = said ≡ line.MemoryFaul
 IsLineOf (events.Look id) (replies.Looked state) said = (said ≡ shown id state) ⊎ (said ≡ line.MemoryFault)
 IsLineOf (events.Look id) replies.NoMemory said = said ≡ line.MemoryFault
 IsLineOf events.Prune (replies.Pruned count) said = said ≡ line.Pruned count
+IsLineOf events.Compact (replies.More left) said = said ≡ line.Compacting left
+IsLineOf events.Compact (replies.Done generation) said = said ≡ line.Compacted generation
+IsLineOf events.Compact replies.Last said = said ≡ line.Refused refusals.Generation
+IsLineOf events.Compact (replies.DiskFault doubt) said = said ≡ line.DiskFault doubt
+IsLineOf events.Compact replies.NoMemory said = said ≡ line.MemoryFault
 IsLineOf events.Stats (replies.Counted version live withdrawn kept pins) said =
     said ≡ line.Counts version live withdrawn kept pins
 IsLineOf events.Pin replies.NoPin said = said ≡ line.Refused refusals.Pins
@@ -435,6 +440,7 @@ Allows standing more (Ok (command.Watch name text)) act = MayWatch standing.watc
 Allows standing more (Ok (command.Hits name)) act = MayHits standing.watches name act
 Allows standing more (Ok (command.Unwatch name)) act = MayUnwatch standing.watches name act
 Allows standing more (Ok command.Prune) act = MayAsk events.Prune act
+Allows standing more (Ok command.Compact) act = MayAsk events.Compact act
 Allows standing more (Ok command.Stats) act = MayAsk events.Stats act
 
 -- one of the acts was done that are allowed, by the cursors

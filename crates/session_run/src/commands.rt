@@ -1,9 +1,9 @@
-//! Commands of one call: changes of the store, `show`, `prune` and `stats`.
+//! Commands of one call: changes of the store, `show`, `prune`, `compact` and `stats`.
 ghost use Rattle.std.specs.Prelude.{◌≡◌, IfOk, List, OnOk, true, ℕ};
 ghost use Rattle.std.specs.Arc.{arc_value};
 ghost use Rattle.shell_lang.specs.Reply.{reply_of};
-ghost use Rattle.store_core.specs.Calls.{NeedsNone, is_worn, is_worn_out};
-ghost use Rattle.store_core.specs.Replies.{IsLookOf, IsSoundChange, change_of, commit_calls, look_calls, prune_calls, stats_calls};
+ghost use Rattle.store_core.specs.Calls.{NeedsNone, is_compact_worn, is_worn, is_worn_out};
+ghost use Rattle.store_core.specs.Replies.{IsLookOf, IsSoundChange, change_of, commit_calls, compact_calls, look_calls, prune_calls, stats_calls};
 ghost use Rattle.store_core.specs.declared.words.Change as asked;
 ghost use Rattle.store_machine.specs.declared.machine.Event.TheVariants as event;
 ghost use Rattle.store_machine.specs.History.{IsId};
@@ -21,7 +21,9 @@ use mol_finish::{Format, TextFault, one_structure};
 use shell_lang::{Refusal, Reply};
 use std::alloc::AllocError;
 use std::sync::Arc;
-use store_core::{CallFault, Change, CommitFault, Look, Record, Recorder, Service, Stats};
+use store_core::{
+    CallFault, Change, CommitFault, Compact, CompactFault, Look, Record, Recorder, Service, Stats,
+};
 use watch_list::Watches;
 
 /// A change to a text.
@@ -181,6 +183,29 @@ fn prune_line(answer: Result<u32, CallFault>) -> Result<Reply, Stop>
         Ok(count) => Ok(Reply::Pruned { count }),
         Err(CallFault::Worn) => Err(Stop::Worn),
         Err(CallFault::NoMemory) => unreachable!(),
+    }
+}
+
+/// One step of a compaction.
+pub fn compact<S: Service>(service: &mut S, out: &mut Vec<u8>) -> Result<(), Stop>
+    ensures { (size : ℕ) (cursors : List Cursor) → AnsweredBy S.Service service.old service.new
+        (Answers size (MayAsk event.Compact) cursors) out.old.items out.new.items cursors result }
+{
+    let answer = service.compact();
+    say_given(compact_line(answer), out)
+}
+
+// The line of `compact`.
+fn compact_line(answer: Result<Compact, CompactFault>) -> Result<Reply, Stop>
+    ensures { Gives event.Compact (compact_calls answer) (is_compact_worn answer) result }
+{
+    match answer {
+        Ok(Compact::More { left }) => Ok(Reply::Compacting { left }),
+        Ok(Compact::Done { generation }) => Ok(Reply::Compacted { generation }),
+        Err(CompactFault::Last) => Ok(Reply::Refused(Refusal::Generation)),
+        Err(CompactFault::DiskFault { doubt }) => Ok(Reply::DiskFault { doubt }),
+        Err(CompactFault::NoMemory) => Ok(Reply::MemoryFault),
+        Err(CompactFault::Worn) => Err(Stop::Worn),
     }
 }
 

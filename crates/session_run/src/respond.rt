@@ -13,7 +13,7 @@ ghost use Rattle.session_run.specs.Standings.{standing_of};
 ghost use Rattle.session_run.specs.Turn.{IsNext};
 ghost use Rattle.session_run.specs.declared.request.Next.TheVariants as next;
 
-use crate::commands::{TextChange, Verb, change_text, commit, prune, show, stats};
+use crate::commands::{TextChange, Verb, change_text, commit, compact, prune, show, stats};
 use crate::cursors::Cursors;
 use crate::items::find_data;
 use crate::listing::ROOM;
@@ -238,6 +238,7 @@ impl Responder {
             ),
             Command::Unwatch { name } => unwatch(&mut self.watches, name, &mut self.out),
             Command::Prune => prune(service, &mut self.out),
+            Command::Compact => compact(service, &mut self.out),
             Command::Stats => stats(service, &mut self.out),
             Command::RegisterMol { .. } => unreachable!(),
             Command::ReviseMol { .. } => unreachable!(),

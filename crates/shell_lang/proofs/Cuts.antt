@@ -12,7 +12,7 @@ use Rattle.shell_lang.specs.declared.command.LineRefusal.TheVariants as refusals
 use Rattle.shell_lang.specs.declared.command.TheConstants.{LARGEST_DENOMINATOR, MOST_SIMILAR}
 use Rattle.shell_lang.specs.Word.{word_text}
 use Rattle.store_machine.specs.History.{IsId}
-use Rattle.shell_lang.specs.Command.{Command, Empty, Register, RegisterNew, Revise, RegisterMol, ReviseMol, RegisterSd, Withdraw, Show, Data, Search, Same, Similar, Start, Next, Close, Watch, Hits, Unwatch, Prune, Stats, AreIds, IsNameByte, IsName, IsSimilarity, Spells, HasNoSpace, HasIdentifierPart, TakesRecords, IsLine}
+use Rattle.shell_lang.specs.Command.{Command, Empty, Register, RegisterNew, Revise, RegisterMol, ReviseMol, RegisterSd, Withdraw, Show, Data, Search, Same, Similar, Start, Next, Close, Watch, Hits, Unwatch, Prune, Compact, Stats, AreIds, IsNameByte, IsName, IsSimilarity, Spells, HasNoSpace, HasIdentifierPart, TakesRecords, IsLine}
 use Rattle.shell_lang.specs.Cut.{Follows, IdentifierPart, FirstPart, IsRest}
 
 own : IsNumeralModel (AllDigits 10) (digits_value 10)
@@ -159,11 +159,18 @@ pub record IsCut (line : List ℕ) (c : Command) : Type 0 where
   pub is : line ≡ word_text word ++ 32 ∷ rest
   pub follows : Follows word rest c
 
-pub cut_of : (line : List ℕ) (c : Command) → Spells line c →
-    ((line ≡ []) ⊎ ((line ≡ codes "prune") ⊎ (line ≡ codes "stats"))) ⊎ IsCut line c
-cut_of line Empty h = inl (inl h)
-cut_of line Prune h = inl (inr (inl h))
-cut_of line Stats h = inl (inr (inr h))
+-- a line without a space that is a command
+pub data IsAlone (line : List ℕ) : Type 0 where
+  IsEmpty : (is : line ≡ []) → IsAlone line
+  IsPrune : (is : line ≡ codes "prune") → IsAlone line
+  IsCompact : (is : line ≡ codes "compact") → IsAlone line
+  IsStats : (is : line ≡ codes "stats") → IsAlone line
+
+pub cut_of : (line : List ℕ) (c : Command) → Spells line c → IsAlone line ⊎ IsCut line c
+cut_of line Empty h = inl (IsEmpty h)
+cut_of line Prune h = inl (IsPrune h)
+cut_of line Compact h = inl (IsCompact h)
+cut_of line Stats h = inl (IsStats h)
 cut_of line (Register id text) h =
     inr (record { word = words.Register; rest = decimal id ++ 32 ∷ text; is = h.1; follows = (h.0, refl) })
 cut_of line (RegisterNew id text) h =
@@ -233,12 +240,13 @@ one_cut line rest more w v e f =
     (one_word w v same.0, same.1)
 
 -- a line with a space is none of the words alone
-pub not_alone : (line : List ℕ) → Contains line 32 →
-    ((line ≡ []) ⊎ ((line ≡ codes "prune") ⊎ (line ≡ codes "stats"))) → ⊥
-not_alone line held (inl e) = spaceless [] tt (subst (λ (w : List ℕ). Contains w 32) e held)
-not_alone line held (inr (inl e)) =
+pub not_alone : (line : List ℕ) → Contains line 32 → IsAlone line → ⊥
+not_alone line held (IsEmpty e) = spaceless [] tt (subst (λ (w : List ℕ). Contains w 32) e held)
+not_alone line held (IsPrune e) =
     spaceless (codes "prune") (search arith) (subst (λ (w : List ℕ). Contains w 32) e held)
-not_alone line held (inr (inr e)) =
+not_alone line held (IsCompact e) =
+    spaceless (codes "compact") (search arith) (subst (λ (w : List ℕ). Contains w 32) e held)
+not_alone line held (IsStats e) =
     spaceless (codes "stats") (search arith) (subst (λ (w : List ℕ). Contains w 32) e held)
 
 -- what a line with a space spells follows its first word
@@ -277,13 +285,14 @@ no_word line first rest e n none = (
 )
 
 -- a line without a space that is no word alone
-pub no_line : (line : List ℕ) → HasNoSpace line → line ≢ [] → line ≢ codes "prune" → line ≢ codes "stats" →
-    IsLine line (Err refusals.Syntax)
-no_line line n empty prune stats = (
+pub no_line : (line : List ℕ) → HasNoSpace line → line ≢ [] → line ≢ codes "prune" → line ≢ codes "compact" →
+    line ≢ codes "stats" → IsLine line (Err refusals.Syntax)
+no_line line n empty prune compact stats = (
   λ c h. elim (cut_of line c h) as (λ _. ⊥) [
-    | inl (inl e) ↦ empty e
-    | inl (inr (inl e)) ↦ prune e
-    | inl (inr (inr e)) ↦ stats e
+    | inl (IsEmpty e) ↦ empty e
+    | inl (IsPrune e) ↦ prune e
+    | inl (IsCompact e) ↦ compact e
+    | inl (IsStats e) ↦ stats e
     | inr x ↦ n (has_space line (word_text x.word) x.rest x.is)
   ],
   λ part h. let x = part_cut_of line part h in n (has_space line (word_text x.word) x.rest x.is),

@@ -8,9 +8,9 @@ use Rattle.shell_lang.specs.declared.command.LineRefusal.{LineRefusal}
 use Rattle.shell_lang.specs.declared.command.LineRefusal.TheVariants as refusals
 use Rattle.shell_lang.specs.Word.{word_text}
 use Rattle.store_machine.specs.History.{IsId}
-use Rattle.shell_lang.specs.Command.{Command, Empty, Register, RegisterNew, Revise, RegisterMol, ReviseMol, RegisterSd, Withdraw, Show, Data, Search, Same, Similar, Start, Next, Close, Watch, Hits, Unwatch, Prune, Stats, AreIds, IsCount, IsNoFirst, IsNoIdentifier, IsSimilarity, HasNoSpace, Spells, HasIdentifierPart, TakesRecords, IsLine}
+use Rattle.shell_lang.specs.Command.{Command, Empty, Register, RegisterNew, Revise, RegisterMol, ReviseMol, RegisterSd, Withdraw, Show, Data, Search, Same, Similar, Start, Next, Close, Watch, Hits, Unwatch, Prune, Compact, Stats, AreIds, IsCount, IsNoFirst, IsNoIdentifier, IsSimilarity, HasNoSpace, Spells, HasIdentifierPart, TakesRecords, IsLine}
 use Rattle.shell_lang.specs.Cut.{Follows, IdentifierPart}
-use Rattle.shell_lang.proofs.Cuts.{same_number, no_space, no_space_first, no_space_named, one_split, one_cut, one_word, word_space, cut_of, part_cut_of, spelled_after, has_space, not_alone}
+use Rattle.shell_lang.proofs.Cuts.{IsAlone, same_number, no_space, no_space_first, no_space_named, one_split, one_cut, one_word, word_space, cut_of, part_cut_of, spelled_after, has_space, not_alone}
 
 -- which of the commands it is
 abbrev kind : Command → ℕ
@@ -35,6 +35,7 @@ kind (Data id name) = 17
 kind (Watch name text) = 18
 kind (Hits name) = 19
 kind (Unwatch name) = 20
+kind Compact = 21
 
 abbrev kind_after : Word → ℕ
 kind_after words.Register = 1
@@ -80,11 +81,12 @@ follow_kind w rest c h = absurd h
 -- which of the lines without a space it is
 abbrev kind_alone : List ℕ → ℕ
 kind_alone [] = 0
-kind_alone (b ∷ bs) = if b == 112 then 11 else 12
+kind_alone (b ∷ bs) = if b == 112 then 11 else if b == 99 then 21 else 12
 
 kind_without_space : (line : List ℕ) (c : Command) → HasNoSpace line → Spells line c → kind c ≡ kind_alone line
 kind_without_space line Empty n h = ap kind_alone (sym h)
 kind_without_space line Prune n h = ap kind_alone (sym h)
+kind_without_space line Compact n h = ap kind_alone (sym h)
 kind_without_space line Stats n h = ap kind_alone (sym h)
 kind_without_space line (Register id text) n h =
     absurd (n (has_space line (codes "register") (decimal id ++ 32 ∷ text) h.1))
@@ -112,7 +114,7 @@ kind_without_space line (Unwatch name) n h = absurd (n (has_space line (codes "u
 
 same_kind : (line : List ℕ) (c d : Command) → Spells line c → Spells line d → kind c ≡ kind d
 same_kind line c d p q =
-    let alone : ((line ≡ []) ⊎ ((line ≡ codes "prune") ⊎ (line ≡ codes "stats"))) → kind c ≡ kind d =
+    let alone : IsAlone line → kind c ≡ kind d =
     λ a. kind_without_space line c (λ held. not_alone line held a) p
     ∙ sym (kind_without_space line d (λ held. not_alone line held a) q) in
     elim (cut_of line c p) [
@@ -160,6 +162,7 @@ similar_few p q k is = omega (arith, is.few.1)
 pub same_command : (line : List ℕ) (c d : Command) → Spells line c → Spells line d → c ≡ d
 same_command line Empty Empty p q = refl
 same_command line Prune Prune p q = refl
+same_command line Compact Compact p q = refl
 same_command line Stats Stats p q = refl
 same_command line (Register m t) (Register n u) p q =
     let same = same_registration m n t u p.0 q.0 (behind (codes "register") line _ _ p.1 q.1) in

@@ -31,6 +31,7 @@ pub data Command : Type 0 where
   Hits : (name : List ℕ) → Command
   Unwatch : (name : List ℕ) → Command
   Prune : Command
+  Compact : Command
   Stats : Command
 
 abbrev pub IsNoIdentifier : List ℕ → Type 0
@@ -85,6 +86,7 @@ Spells line (Watch name text) = IsName name × (line ≡ codes "watch" ++ 32 ∷
 Spells line (Hits name) = IsName name × (line ≡ codes "hits" ++ 32 ∷ name)
 Spells line (Unwatch name) = IsName name × (line ≡ codes "unwatch" ++ 32 ∷ name)
 Spells line Prune = line ≡ codes "prune"
+Spells line Compact = line ≡ codes "compact"
 Spells line Stats = line ≡ codes "stats"
 
 abbrev pub HasNoSpace : List ℕ → Type 0

@@ -5,7 +5,7 @@ use Rattle.shell_lang.specs.declared.command.Command as read
 use Rattle.shell_lang.specs.declared.command.Command.TheVariants as variants
 use Rattle.shell_lang.specs.declared.command.TakenLines.{TakenLines}
 use Rattle.shell_lang.specs.declared.command.TakenLines.TheVariants as taken
-use Rattle.shell_lang.specs.Command.{Command, Empty, Register, RegisterNew, Revise, RegisterMol, ReviseMol, RegisterSd, Withdraw, Show, Data, Search, Same, Similar, Start, Next, Close, Watch, Hits, Unwatch, Prune, Stats, IsLine, StartsMolfile, TakesRecords, molfile_command, records_command}
+use Rattle.shell_lang.specs.Command.{Command, Empty, Register, RegisterNew, Revise, RegisterMol, ReviseMol, RegisterSd, Withdraw, Show, Data, Search, Same, Similar, Start, Next, Close, Watch, Hits, Unwatch, Prune, Compact, Stats, IsLine, StartsMolfile, TakesRecords, molfile_command, records_command}
 
 abbrev pub command_of : read.Command → Command
 command_of variants.Empty = Empty
@@ -28,6 +28,7 @@ command_of (variants.Watch name text) = Watch name.now text.now
 command_of (variants.Hits name) = Hits name.now
 command_of (variants.Unwatch name) = Unwatch name.now
 command_of variants.Prune = Prune
+command_of variants.Compact = Compact
 command_of variants.Stats = Stats
 
 -- the line takes these lines after it

@@ -37,6 +37,8 @@ pub data Reply : Type 0 where
   EndWatched : (version hits rebuilt : ℕ) → Reply
   Unwatched : Reply
   Pruned : (count : ℕ) → Reply
+  Compacting : (left : ℕ) → Reply
+  Compacted : (generation : ℕ) → Reply
   Counts : (version live withdrawn kept pins : ℕ) → Reply
   Refused : Refusal → Reply
   DiskFault : (doubt : Bool) → Reply
@@ -93,6 +95,7 @@ refusal_words refusals.Withdrawn = codes "refused withdrawn"
 refusal_words refusals.Data = codes "refused data"
 refusal_words refusals.Full = codes "refused full"
 refusal_words refusals.Pins = codes "refused pins"
+refusal_words refusals.Generation = codes "refused generation"
 
 -- a text whose every line is ended by LF: one is added where the last line has none
 abbrev pub ended : List ℕ → List ℕ
@@ -171,6 +174,8 @@ reply_words (Watching version hits) = watching_words version hits
 reply_words (EndWatched version hits rebuilt) = watched_words version hits rebuilt
 reply_words Unwatched = codes "unwatched"
 reply_words (Pruned count) = codes "pruned " ++ decimal count
+reply_words (Compacting left) = codes "compacting " ++ decimal left
+reply_words (Compacted generation) = codes "compacted " ++ decimal generation
 reply_words (Counts version live withdrawn kept pins) = count_words version live withdrawn kept pins
 reply_words (Refused refusal) = refusal_words refusal
 reply_words (DiskFault doubt) = doubt_words doubt
@@ -200,6 +205,8 @@ reply_of (replies.Watching version hits) = Watching version hits
 reply_of (replies.EndWatched version hits rebuilt) = EndWatched version hits rebuilt
 reply_of replies.Unwatched = Unwatched
 reply_of (replies.Pruned count) = Pruned count
+reply_of (replies.Compacting left) = Compacting left
+reply_of (replies.Compacted generation) = Compacted generation
 reply_of (replies.Counts n) = Counts n.version n.live n.withdrawn n.kept n.pins
 reply_of (replies.Refused refusal) = Refused refusal
 reply_of (replies.DiskFault doubt) = DiskFault doubt

@@ -117,6 +117,8 @@ pub enum Command<'a> {
     },
     /// `prune`
     Prune,
+    /// `compact`
+    Compact,
     /// `stats`
     Stats,
 }
@@ -209,6 +211,9 @@ fn alone(line: &[u8]) -> Result<Command<'_>, LineRefusal>
     }
     if are_same(line, b"prune") {
         return Ok(Command::Prune);
+    }
+    if are_same(line, b"compact") {
+        return Ok(Command::Compact);
     }
     if are_same(line, b"stats") {
         return Ok(Command::Stats);

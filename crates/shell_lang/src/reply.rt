@@ -82,15 +82,25 @@ pub enum Reply {
     Pruned {
         count: u32,
     },
+    /// A step of a compaction, and how many items are left.
+    Compacting {
+        left: u32,
+    },
+    /// The end of a compaction, and the generation of the store's disk from now on.
+    Compacted {
+        generation: u32,
+    },
     /// Counts of the store.
     Counts(Stats),
     /// The command is refused, and nothing is done.
     Refused(Refusal),
-    /// A disk failed in a commit. With `doubt` a crash may yet show the change committed.
+    /// A disk failed in a commit, or in a step of a compaction, which is given up. With `doubt` a crash may yet show
+    /// the change committed, or the compaction ended.
     DiskFault {
         doubt: bool,
     },
-    /// Memory ran out, and the command did nothing; a search may have listed some hits.
+    /// Memory ran out, and the command did nothing; a search may have listed some hits, and a step of a compaction may
+    /// have written some items.
     MemoryFault,
 }
 
@@ -130,6 +140,8 @@ pub enum Refusal {
     Full,
     /// As many pins are held as there may be, 64.
     Pins,
+    /// No generation is left, so that no compaction may begin.
+    Generation,
 }
 
 /// Appends the reply's lines, each with its LF. An `Err` changes nothing.
@@ -226,6 +238,8 @@ impl Reply {
             } => push_watched(*version, *hits, *rebuilt, out),
             Reply::Unwatched => push(out, "unwatched"),
             Reply::Pruned { count } => push_number(out, "pruned ", *count),
+            Reply::Compacting { left } => push_number(out, "compacting ", *left),
+            Reply::Compacted { generation } => push_number(out, "compacted ", *generation),
             Reply::Counts(stats) => push_stats(*stats, out),
             Reply::Refused(refusal) => refusal.push_words(out),
             Reply::DiskFault { doubt: true } => push(out, "fault disk doubt"),
@@ -260,6 +274,7 @@ impl Refusal {
             Refusal::Data => push(out, "refused data"),
             Refusal::Full => push(out, "refused full"),
             Refusal::Pins => push(out, "refused pins"),
+            Refusal::Generation => push(out, "refused generation"),
         }
     }
 }

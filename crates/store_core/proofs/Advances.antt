@@ -78,7 +78,14 @@ pub refused-result : (store new : StoreTerm) (s : State) (c : Change) (f : Commi
     → Calls Stretches (λ _. true) store new s (commit_calls c r)
 refused-result store new s c f (Ok x) is stands h why = absurd is
 refused-result store new s c f (Err e) is stands h why =
-    refused-row store new s c e h (record { sound = h.sound; serves = h.serves; copy = h.copy; finish = h.finish; stands = stands })
+    refused-row store new s c e h (record {
+      sound = h.sound;
+      serves = h.serves;
+      copy = h.copy;
+      finish = h.finish;
+      generation = h.generation;
+      stands = stands;
+    })
     (subst (IsWhy s (change_of c)) (sym is) why)
 
 pub committed-row : (store new : StoreTerm) (s : State) (c : Change) → IsAt store s → MayAdd s (change_of c)
@@ -95,6 +102,7 @@ committed-row store new s c h may stands =
       serves = h.serves;
       copy = none;
       finish = refl;
+      generation = h.generation;
       stands = stands;
     })
 

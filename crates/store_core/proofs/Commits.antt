@@ -22,12 +22,13 @@ use Rattle.store_core.specs.Replies.{Counts, IsSoundChange, MayCount, change_of,
 use Rattle.store_core.specs.Stored.{IsChain, Served, StandsFor, StoreTerm, alone, served}
 use Rattle.store_core.specs.declared.words.Change.{Change}
 use Rattle.store_core.specs.declared.words.Change.TheVariants.{Register, Revise, Withdraw}
+use Rattle.store_core.proofs.Copied.{head-kept}
 use Rattle.store_core.proofs.Counts.{count-get, count-insert, one_if, one_in}
 use Rattle.store_core.proofs.Indexed.{Adds, added-has}
 use Rattle.store_core.proofs.Listed.{lists-more}
 use Rattle.store_core.proofs.OneCall.{serves}
 use Rattle.store_core.proofs.Rows.{sound-after}
-use Rattle.store_core.proofs.Sees.{head-used, sees}
+use Rattle.store_core.proofs.Sees.{sees}
 
 no-some : {X : Type 0} {x : X} → Some x ≡ None → ⊥
 no-some e = cc
@@ -230,7 +231,7 @@ pub now-is : KeptIsRead → StatesStay → (store : StoreTerm) (s : State) (c : 
 now-is read stay store s c o h latest =
     refusal-is (now s) c
     ∙ ap (λ x. refusal_by x c)
-    (sees read store s (head s.history) (id_of (change_of c)) h (head-used s) stay o
+    (sees read store s (head s.history) (id_of (change_of c)) h (head-kept store s h) stay o
     (subst (λ v. IsLatest v (chain_of store.kept.chains (id_of (change_of c))) o) h.version latest))
 
 -- a live identifier is counted

@@ -1,5 +1,5 @@
 -- How many entries of a finite map pass a test, after an insertion.
-use Rattle.std.proofs.Common.{◌≡◌, ◌+◌, ◌&&◌, ◌<◌, ◌≤◌, ◌∙◌, ap, arith, Bool, cond, count_by, Equal, false, Greater, is_eq, is_lt, Less, List, [], ◌∷◌, nat_cmp, None, Option, Ordering, refl, Some, subst, sym, T, true, ℕ}
+use Rattle.std.proofs.Common.{◌≡◌, ◌+◌, ◌&&◌, ◌<◌, ◌≤◌, ◌∙◌, ap, arith, Bool, cond, count_by, Equal, false, Greater, is_eq, is_lt, length, Less, List, [], ◌∷◌, nat_cmp, None, not, Option, Ordering, refl, Some, subst, sym, T, true, ℕ}
 use Rattle.std.proofs.lemmas.List.Sums.{sum_by-cons}
 use Rattle.std.specs.Cmp.{nat_cmp_total, ranked}
 use Rattle.std.specs.FinMap.{FinMap, entries, entries-insert, entries_sorted, get, get-entries, insert, is_sorted}
@@ -26,7 +26,7 @@ apart : (k a : ℕ) → k < a → eq_by_cmp nat_cmp k a ≡ false
 apart k a less = grind (arith, less)
 
 module _ {X : Type 0} where
-  find-below : (k a : ℕ) (es : List (ℕ × X)) → k ≤ a → T (below_all nat_cmp a es) → find nat_cmp k es ≡ None
+  pub find-below : (k a : ℕ) (es : List (ℕ × X)) → k ≤ a → T (below_all nat_cmp a es) → find nat_cmp k es ≡ None
   find-below k a [] le h = refl
   find-below k a (e ∷ es) le h =
       let parts = both-hold _ _ h in
@@ -104,3 +104,14 @@ module _ {X : Type 0} where
   pub count-get : (p : X → Bool) (m : FinMap nat_cmp X) (k : ℕ) → one_in p (get m k) ≤ count_by (λ e. p e.1) (entries m)
   count-get p m k = let found = count-find p k (entries m) in let was = ap (one_in p) (get-entries m k)
       in omega (arith, found, was)
+
+-- those that pass and those that do not are all
+one-or-not : (b : Bool) → one_if b + one_if (not b) ≡ 1
+one-or-not true = refl
+one-or-not false = refl
+
+pub count-both : {X : Type 0} (p : X → Bool) (es : List (ℕ × X))
+    → count_by (λ x. p x.1) es + count_by (λ x. not (p x.1)) es ≡ length es
+count-both p [] = refl
+count-both p (e ∷ es) =
+    omega (arith, count-cons p e es, count-cons (λ x. not (p x)) e es, one-or-not (p e.1), count-both p es)

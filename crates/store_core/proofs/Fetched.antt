@@ -1,15 +1,13 @@
 -- What a fetch finds at a pinned version, by the kept entries.
 use Rattle.std.proofs.Common.{◌≡◌, ◌+◌, ◌<◌, ◌≤◌, ◌⊎◌, ◌∙◌, ap, arith, Bool, Contains, inl, inr, List, [], ◌∷◌, map, None, Option, option_map, refl, Some, subst, suc, sym, zero, ℕ}
 use Rattle.std.proofs.lemmas.Bool.{cases_lt, true≢false}
-use Rattle.std.proofs.lemmas.List.Elements.{Contains-append_left}
 use Rattle.std.specs.Arc.{arc_value}
 use Rattle.std.specs.FinMap.{get}
 use Rattle.record_versions.specs.Entries.{IsLatest, chain_of}
 use Rattle.snap_registry.specs.declared.Pin.{Pin}
 use Rattle.mol_finish.specs.declared.fault.Format.{Format}
 use Rattle.store_machine.specs.Answers.{AreFound, IsLive, from_on}
-use Rattle.store_machine.specs.History.{Snapshot, head, snapshot}
-use Rattle.store_machine.specs.Kept.{in_use}
+use Rattle.store_machine.specs.History.{Snapshot, snapshot}
 use Rattle.store_machine.specs.Laws.{KeptIsRead, StatesStay}
 use Rattle.store_machine.specs.Machine.{is_live}
 use Rattle.store_machine.specs.Structures.{IsScreened}
@@ -18,10 +16,12 @@ use Rattle.store_machine.specs.declared.machine.Held.{Held}
 use Rattle.store_machine.specs.declared.machine.State.{State}
 use Rattle.store_machine.specs.declared.machine.Status.{Status}
 use Rattle.store_machine.specs.declared.machine.Status.TheVariants.{Live, Withdrawn}
+use Rattle.store_core.specs.Copied.{KeepsVersion}
 use Rattle.store_core.specs.Kept.{HasPrint, IsEntryOf, IsNextId, Kept, record_of, status_in, status_of}
 use Rattle.store_core.specs.Records.{IsRecord, Shared, found_of}
-use Rattle.store_core.specs.Stored.{StandsFor, StoreTerm, alone, pin_of, served}
+use Rattle.store_core.specs.Stored.{StandsFor, StoreTerm, pin_of, served}
 use Rattle.store_core.proofs.Bits.{decide-record}
+use Rattle.store_core.proofs.Copied.{pin-kept}
 use Rattle.store_core.proofs.Found.{Rises, increases, on-first, on-from, on-none, rises}
 use Rattle.store_core.proofs.Screened.{OneStructure, screened}
 use Rattle.store_core.proofs.Sees.{latest-of, same-state, sees}
@@ -36,11 +36,10 @@ pinned-version pin (p ∷ ps) c =
       | inr d ↦ contains-there p.version pin.version (map (λ (x : Held). x.version) ps) (pinned-version pin ps d)
     ]
 
-pub pin-used : (store : StoreTerm) (s : State) (pin : Pin) → StandsFor store (served s) → Contains store.pins pin
-    → Contains (in_use (alone (served s))) pin.version
-pin-used store s pin h held =
-    Contains-append_left (map (λ (p : Held). p.version) s.pins) (head s.history ∷ []) pin.version
-    (pinned-version pin s.pins (subst (λ l. Contains l pin) (sym h.pins) held))
+pub held-kept : (store : StoreTerm) (s : State) (pin : Pin) → StandsFor store (served s) → Contains store.pins pin
+    → KeepsVersion s pin.version
+held-kept store s pin h held =
+    pin-kept store s h pin.version (pinned-version pin s.pins (subst (λ l. Contains l pin) (sym h.pins) held))
 
 format_in : Format → Status → Format
 format_in d (Live version format text) = format
@@ -130,7 +129,7 @@ found-in Asked unique decide (suc count) from = go (found-in Asked unique decide
     }
 
 module _ (read : KeptIsRead) (stay : StatesStay) (one : OneStructure) (store : StoreTerm) (s : State) (v : ℕ)
-    (h : StandsFor store (served s)) (used : Contains (in_use (alone (served s))) v) (want : List Bool) where
+    (h : StandsFor store (served s)) (keeps : KeepsVersion s v) (want : List Bool) where
   abbrev states : Snapshot
   states = snapshot s.history v
 
@@ -139,7 +138,7 @@ module _ (read : KeptIsRead) (stay : StatesStay) (one : OneStructure) (store : S
 
   live-in : (r : Found) (o : Option Kept) → IsLatest v (chain_of store.kept.chains r.id) o → IsLive states r → Has o r
   live-in r o latest (version, e) =
-      let found = of-kept (Live version r.format r.text) o (sym (sees read store s v r.id h used stay o latest) ∙ e) in
+      let found = of-kept (Live version r.format r.text) o (sym (sees read store s v r.id h keeps stay o latest) ∙ e) in
       let l = lives found.0.version found.0.value version r.format r.text found.2 in
       let there = subst (IsLatest v (chain_of store.kept.chains r.id)) found.1 latest in
       let own : IsEntryOf r.id (Some l.shared) = subst (IsEntryOf r.id) l.is
@@ -176,7 +175,7 @@ module _ (read : KeptIsRead) (stay : StatesStay) (one : OneStructure) (store : S
         asked = (
           (
             k.version,
-            ap (get states) own.1 ∙ (sees read store s v id h used stay (Some k) latest
+            ap (get states) own.1 ∙ (sees read store s v id h keeps stay (Some k) latest
                 ∙ ap (λ e. Some (status_in k.version e)) value),
           ),
           (screened one x.format x.text x.mol x.print want own.0.structure own.0.print).0 print,
@@ -193,7 +192,7 @@ module _ (read : KeptIsRead) (stay : StatesStay) (one : OneStructure) (store : S
 
   latest-live : (r : Found) → IsLive states r → (k : Kept) × IsLatest v (chain_of store.kept.chains r.id) (Some k)
   latest-live r (version, e) =
-      let l = latest-of read store s v r.id h used (Live version r.format r.text) e in (l.k, l.latest)
+      let l = latest-of read store s v r.id h keeps (Live version r.format r.text) e in (l.k, l.latest)
 
   same-screened : (q r : Found) → q.id ≡ r.id → Asked q → IsLive states r → IsScreened want r.format r.text
   unfolding format_in text_in

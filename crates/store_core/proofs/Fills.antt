@@ -14,7 +14,7 @@ use Rattle.store_machine.specs.declared.machine.State.{State}
 use Rattle.store_core.specs.Kept.{HasPrint, IsEntryOf, IsNextId, Kept, record_of}
 use Rattle.store_core.specs.Records.{Shared, found_of, founds}
 use Rattle.store_core.specs.Stored.{StandsFor, StoreTerm, served}
-use Rattle.store_core.proofs.Fetched.{below-all, found-all, here, none-left, not-here, pin-used, skip}
+use Rattle.store_core.proofs.Fetched.{below-all, found-all, held-kept, here, none-left, not-here, skip}
 use Rattle.store_core.proofs.Found.{at-end, at-limit}
 use Rattle.store_core.proofs.Screened.{OneStructure}
 use Rattle.store_core.proofs.Stepped.{SoFar, one-step}
@@ -46,10 +46,10 @@ module _ (read : KeptIsRead) (stay : StatesStay) (one : OneStructure) (store : S
       → AreFound (IsScreened want) (snapshot s.history pin.version) all
       → from_on from all ≡ founds page ++ found_of (arc_value shared) ∷ from_on (id + 1) all
   found-next place id o shared page goes next latest value print s h all found =
-      let used = pin-used store s pin h held in
+      let keeps = held-kept store s pin h held in
       goes s h all found ∙ ap (λ l. founds page ++ l)
-      (skip read stay one store s pin.version h used want all found place id next.0 next.2
-      ∙ here read stay one store s pin.version h used want all found id o shared latest value print)
+      (skip read stay one store s pin.version h keeps want all found place id next.0 next.2
+      ∙ here read stay one store s pin.version h keeps want all found id o shared latest value print)
 
   pub put-on : (place id : ℕ) (o : Option Kept) (shared q : Shared) (page new : List Shared) → Goes place page
       → IsNextId want place store.kept.chains (Some id) → Latest id o → record_of o ≡ Some shared
@@ -67,10 +67,10 @@ module _ (read : KeptIsRead) (stay : StatesStay) (one : OneStructure) (store : S
       → IsNextId want place store.kept.chains (Some id) → Latest id o → ¬ HasPrint want (record_of o)
       → Goes (id + 1) page
   passed-by place id o page goes next latest not s h all found =
-      let used = pin-used store s pin h held in
+      let keeps = held-kept store s pin h held in
       goes s h all found ∙ ap (λ l. founds page ++ l)
-      (skip read stay one store s pin.version h used want all found place id next.0 next.2
-      ∙ not-here read stay one store s pin.version h used want all found id o latest not)
+      (skip read stay one store s pin.version h keeps want all found place id next.0 next.2
+      ∙ not-here read stay one store s pin.version h keeps want all found id o latest not)
 
   -- the page is full, and one more is found
   pub full-page : (place id limit : ℕ) (o : Option Kept) (shared : Shared) (page : List Shared) → Goes place page
@@ -78,9 +78,9 @@ module _ (read : KeptIsRead) (stay : StatesStay) (one : OneStructure) (store : S
       → HasPrint want (Some shared) → length page ≡ limit → (s : State) → StandsFor store (served s)
       → IsPage (snapshot s.history pin.version) want from limit (founds page) false
   full-page place id limit o shared page goes next latest value print full s h =
-      let used = pin-used store s pin h held in
-      let all = found-all read stay one store s pin.version h used want 1000000000
-      (below-all read stay one store s pin.version h used want) in
+      let keeps = held-kept store s pin h held in
+      let all = found-all read stay one store s pin.version h keeps want 1000000000
+      (below-all read stay one store s pin.version h keeps want) in
       let is = at-limit page limit (from_on from all.0) (from_on (id + 1) all.0) (found_of (arc_value shared)) full
       (found-next place id o shared page goes next latest value print s h all.0 all.1) in
       record { all = all.0; found = all.1; first = is.0; end = is.1 }
@@ -90,12 +90,12 @@ module _ (read : KeptIsRead) (stay : StatesStay) (one : OneStructure) (store : S
       → length page ≤ limit → (s : State) → StandsFor store (served s)
       → IsPage (snapshot s.history pin.version) want from limit (founds page) true
   last-page place limit page goes none few s h =
-      let used = pin-used store s pin h held in
-      let all = found-all read stay one store s pin.version h used want 1000000000
-      (below-all read stay one store s pin.version h used want) in
+      let keeps = held-kept store s pin h held in
+      let all = found-all read stay one store s pin.version h keeps want 1000000000
+      (below-all read stay one store s pin.version h keeps want) in
       let is = at-end page limit (from_on from all.0) few
       (goes s h all.0 all.1 ∙ (ap (λ l. founds page ++ l)
-      (none-left read stay one store s pin.version h used want all.0 all.1 place none) ∙ append-nil (founds page))) in
+      (none-left read stay one store s pin.version h keeps want all.0 all.1 place none) ∙ append-nil (founds page))) in
       record { all = all.0; found = all.1; first = is.0; end = is.1 }
 
   -- a step was taken for it

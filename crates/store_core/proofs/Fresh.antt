@@ -6,7 +6,7 @@ use Rattle.store_machine.specs.History.{Snapshot, after_changes, begun, snapshot
 use Rattle.store_machine.specs.Laws.{IsSound}
 use Rattle.store_machine.specs.declared.machine.Change.{Change}
 use Rattle.store_machine.specs.declared.machine.Status.{Status}
-use Rattle.store_core.specs.Stored.{IsAt, IsChain, empty, served}
+use Rattle.store_core.specs.Stored.{IsAt, IsChain, alone, empty, served}
 use Rattle.store_core.specs.Kept.{KeptTerm, Lists}
 use Rattle.store_core.proofs.OneCall.{at-alone}
 
@@ -30,7 +30,7 @@ pub no-entries : (es : List (ℕ × Status)) → length es ≡ 0 → es ≡ []
 no-entries [] e = refl
 no-entries (x ∷ xs) e = absurd (omega (arith, e))
 
-empty-sound : (commits : ℕ) → IsSound (empty commits)
+empty-sound : (commits : ℕ) → IsSound (alone (served (empty commits)))
 empty-sound commits = record {
   history = record {
     base = no-entries (entries none) (sym (len-entries none) ∙ len-empty nat_cmp Status);
@@ -72,7 +72,7 @@ stands : (commits : ℕ) (reserved : Option (List Bool)) → commits ≤ 1677721
       limit = commits;
       live = 0;
       withdrawn = 0;
-    }) (empty commits)
+    }) (alone (served (empty commits)))
 stands commits reserved few =
     let start : Snapshot = none in
     let size : length (entries start) ≡ 0 = sym (len-entries start) ∙ len-empty nat_cmp Status in
@@ -92,7 +92,8 @@ stands commits reserved few =
     })
 
 pub fresh-stands : (commits : ℕ) (kept : KeptTerm) (pins : List Pin) → commits ≤ 16777215 → kept.chains ≡ [] → pins ≡ []
-    → IsAt (record { kept = kept; pins = pins; version = 0; limit = commits; live = 0; withdrawn = 0 }) (empty commits)
+    → IsAt (record { kept = kept; pins = pins; version = 0; limit = commits; live = 0; withdrawn = 0 })
+    (alone (served (empty commits)))
 fresh-stands commits kept pins few e f =
     subst (λ l. IsAt (record {
       kept = record { chains = l; reserved = kept.reserved };
@@ -101,7 +102,7 @@ fresh-stands commits kept pins few e f =
       limit = commits;
       live = 0;
       withdrawn = 0;
-    }) (empty commits)) (sym e)
+    }) (alone (served (empty commits)))) (sym e)
     (subst (λ l. IsAt (record {
       kept = record { chains = []; reserved = kept.reserved };
       pins = l;
@@ -109,4 +110,4 @@ fresh-stands commits kept pins few e f =
       limit = commits;
       live = 0;
       withdrawn = 0;
-    }) (empty commits)) (sym f) (stands commits kept.reserved few))
+    }) (alone (served (empty commits)))) (sym f) (stands commits kept.reserved few))

@@ -1,12 +1,15 @@
 mod Advances
 mod Based
+mod Beside
 mod Bits
 mod Commits
+mod Copied
 mod Counts
 mod Dead
 mod FetchRow
 mod Fetched
 mod Fills
+mod Firsts
 mod Found
 mod Fresh
 mod Indexed

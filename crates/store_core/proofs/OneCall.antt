@@ -75,4 +75,4 @@ whole-sound s doubt base none finish h = record {
 }
 
 pub at-alone : (store : StoreTerm) (s : Served) → StandsFor store s → IsAt store (alone s)
-at-alone store s h = record { sound = h.sound; serves = refl; copy = refl; finish = refl; stands = h }
+at-alone store s h = record { sound = h.sound; serves = refl; copy = refl; finish = refl; generation = refl; stands = h }

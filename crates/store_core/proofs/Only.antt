@@ -67,7 +67,7 @@ one-step (x ∷ (y ∷ zs)) s t e r run calm own =
     ∙ ap (λ (l : List (Event × Reply)). (x.event, x.reply) ∷ l) (own-call y rest calm.1.0) in
     absurd (two-calls (sym both ∙ own))
 
-step-of : (old new : StoreTerm) (s : State) (e : Event) (r : Reply)
+pub step-of : (old new : StoreTerm) (s : State) (e : Event) (r : Reply)
     → (c : Calls Stretches (λ _. true) old new s ((e, r) ∷ [])) → OneStep s e r c.after
 step-of old new s e r c = one-step c.steps s c.after e r c.stands.run c.stands.calm c.own
 

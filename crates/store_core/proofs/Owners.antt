@@ -37,6 +37,7 @@ asks-no-owner law store s t same = (
     serves = ap (λ (x : State). x.serves) same.rest ∙ at.serves;
     copy = ap (λ (x : State). x.copy) same.rest ∙ at.copy;
     finish = ap (λ (x : State). x.finish) same.rest ∙ at.finish;
+    generation = ap (λ (x : State). x.generation) same.rest ∙ at.generation;
     stands = stands-too law store s t same at.stands;
   },
 )

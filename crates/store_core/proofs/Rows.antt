@@ -23,8 +23,9 @@ use Rattle.store_core.specs.declared.words.CallFault.{CallFault}
 use Rattle.store_core.specs.declared.words.CallFault.TheVariants as call
 use Rattle.store_core.specs.declared.words.Look.{Look}
 use Rattle.store_machine.proofs.Members.{contains-here, contains-split, contains-there}
+use Rattle.store_core.proofs.Copied.{head-kept}
 use Rattle.store_core.proofs.OneCall.{alone-sound, one-call, serves, step_of}
-use Rattle.store_core.proofs.Sees.{head-used, sees}
+use Rattle.store_core.proofs.Sees.{sees}
 
 -- a step keeps a sound state sound
 pub sound-after : RunsStaySound → (s t : State) (owner : ℕ) (e : Event) (r : Reply) → Gives s owner e r t → IsSound s
@@ -88,6 +89,7 @@ other-pins store s pins held h sound e = record {
   serves = h.serves;
   copy = h.copy;
   finish = h.finish;
+  generation = h.generation;
   stands = pins-stand store (served s) pins held h.stands
       (alone-sound (record s { pins = pins }) sound h.serves h.copy) e;
 }
@@ -278,7 +280,7 @@ look-ok : KeptIsRead → StatesStay → (store : StoreTerm) (s : State) (id : �
     → IsAt store s → IsLatest store.version (chain_of store.kept.chains id) o → status ≡ option_map status_of o
     → Calls Stretches (λ _. true) store store s ((event.Look id, reply.Looked status) ∷ [])
 look-ok read stay store s id o status h latest e =
-    let seen = sees read store s (head s.history) id h.stands (head-used s) stay o
+    let seen = sees read store s (head s.history) id h.stands (head-kept store s h.stands) stay o
     (subst (λ v. IsLatest v (chain_of store.kept.chains id) o) h.stands.version latest) in
     one-call store store s s 0 (event.Look id) (reply.Looked status) refl h (serves s h.serves, (e ∙ sym seen, refl)) h
 

@@ -1,20 +1,20 @@
--- What a reader at a version in use finds of an identifier is the snapshot.
-use Rattle.std.proofs.Common.{◌≡◌, ◌<◌, ◌≤◌, ◌∙◌, ap, arith, Contains, IfSome, map, MatchOption, None, Option, option_map, refl, Some, subst, sym, ℕ}
-use Rattle.std.proofs.lemmas.List.Elements.{All-contains, Contains-push}
+-- What a reader finds of an identifier at a version that is kept is the snapshot.
+use Rattle.std.proofs.Common.{◌≡◌, ◌<◌, ◌≤◌, ◌∙◌, ap, arith, Contains, IfSome, MatchOption, None, Option, option_map, refl, Some, subst, sym, ℕ}
+use Rattle.std.proofs.lemmas.List.Elements.{All-contains}
 use Rattle.std.specs.Arc.{arc_value}
 use Rattle.std.specs.FinMap.{get}
 use Rattle.record_versions.specs.Entries.{IsLatest, chain_of}
-use Rattle.store_machine.specs.History.{head, made_at, snapshot}
-use Rattle.store_machine.specs.Kept.{in_use}
+use Rattle.store_machine.specs.History.{made_at, snapshot}
 use Rattle.store_machine.specs.Laws.{KeptIsRead, StatesStay}
 use Rattle.store_machine.specs.Made.{IsKept}
-use Rattle.store_machine.specs.declared.machine.Held.{Held}
 use Rattle.store_machine.specs.declared.machine.State.{State}
 use Rattle.store_machine.specs.declared.machine.Status.{Status}
 use Rattle.store_machine.specs.declared.machine.Status.TheVariants.{Withdrawn}
+use Rattle.store_core.specs.Copied.{KeepsVersion}
 use Rattle.store_core.specs.Kept.{IsEntryOf, Kept, record_of, status_in, status_of}
 use Rattle.store_core.specs.Records.{IsRecord, Shared}
 use Rattle.store_core.specs.Stored.{Served, StandsFor, StoreTerm, alone, served}
+use Rattle.store_core.proofs.Copied.{with-copy, with-copy-sound, with-copy-used}
 
 pub made-of : (k : Kept) → made_at (status_of k) ≡ k.version
 made-of k = go k.version k.value
@@ -65,9 +65,9 @@ Reads s v id o = MatchOption o ((version : ℕ) → IsKept (alone s) id version 
     × ((version : ℕ) → IsKept (alone s) id version → version ≤ v → version ≤ made_at status))
 
 module _ (read : KeptIsRead) (store : StoreTerm) (s : State) (v id : ℕ) (h : StandsFor store (served s))
-    (used : Contains (in_use (alone (served s))) v) where
+    (keeps : KeepsVersion s v) where
   reads : Reads (served s) v id (get (snapshot s.history v) id)
-  reads = read (alone (served s)) v id h.sound refl used
+  reads = read (with-copy store s h v) v id (with-copy-sound store s h v keeps) refl (with-copy-used store s h v)
 
   pub latest-of : (status : Status) → get (snapshot s.history v) id ≡ Some status → LatestOf store v id status
   latest-of status e =
@@ -107,7 +107,3 @@ module _ (read : KeptIsRead) (store : StoreTerm) (s : State) (v id : ℕ) (h : S
           subst (λ n. get (snapshot s.history n) id ≡ Some status) (sym same)
           (stay s.history v id status h.sound.history e).3 in
           e ∙ ap (λ x. Some x) (same-state status (status_of k) (sym then ∙ (h.chains id).states k l.0))
-
--- the head is in use
-pub head-used : (s : State) → Contains (in_use (alone (served s))) (head s.history)
-head-used s = Contains-push (map (λ (p : Held). p.version) s.pins) (head s.history)

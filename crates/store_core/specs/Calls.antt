@@ -10,6 +10,8 @@ use Rattle.store_core.specs.declared.words.CallFault.{CallFault}
 use Rattle.store_core.specs.declared.words.CallFault.TheVariants as call
 use Rattle.store_core.specs.declared.words.CommitFault.{CommitFault}
 use Rattle.store_core.specs.declared.words.CommitFault.TheVariants as commit
+use Rattle.store_core.specs.declared.words.CompactFault.{CompactFault}
+use Rattle.store_core.specs.declared.words.CompactFault.TheVariants as compact
 
 -- there is a stretch in which the caller's own calls are these
 pub record Calls {S : Type 0} (stretch : S → S → State → List Step → State → Type 0) (owns : ℕ → Bool) (old new : S)
@@ -28,6 +30,11 @@ abbrev pub is_worn : {X : Type 0} → Result X CallFault → Bool
 is_worn (Ok x) = false
 is_worn (Err call.Worn) = true
 is_worn (Err call.NoMemory) = false
+
+abbrev pub is_compact_worn : {X : Type 0} → Result X CompactFault → Bool
+is_compact_worn (Ok x) = false
+is_compact_worn (Err compact.Worn) = true
+is_compact_worn (Err _) = false
 
 -- a worn service answers that it is, and one that answers so is worn afterwards
 abbrev pub WornAs : Type 0 → Type 0 → Bool → Type 0

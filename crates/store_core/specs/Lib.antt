@@ -1,5 +1,7 @@
 pub mod Based
+pub mod Beside
 pub mod Calls
+pub mod Copied
 pub mod Kept
 pub mod Only
 pub mod Prepared

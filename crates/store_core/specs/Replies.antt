@@ -18,6 +18,10 @@ use Rattle.store_core.specs.declared.words.Change.{Change as Asked}
 use Rattle.store_core.specs.declared.words.Change.TheVariants as asked
 use Rattle.store_core.specs.declared.words.CommitFault.{CommitFault}
 use Rattle.store_core.specs.declared.words.CommitFault.TheVariants as commit
+use Rattle.store_core.specs.declared.words.Compact.{Compact}
+use Rattle.store_core.specs.declared.words.Compact.TheVariants as compact
+use Rattle.store_core.specs.declared.words.CompactFault.{CompactFault}
+use Rattle.store_core.specs.declared.words.CompactFault.TheVariants as fault
 use Rattle.store_core.specs.declared.words.Look.{Look}
 use Rattle.store_core.specs.declared.words.Look.TheVariants as look
 use Rattle.store_core.specs.declared.words.Stats.{Stats}
@@ -72,6 +76,15 @@ abbrev pub MayCount : Asked → ℕ → Type 0
 MayCount (asked.Register r) live = Unit {0}
 MayCount (asked.Revise r) live = Unit {0}
 MayCount (asked.Withdraw id) live = 1 ≤ live
+
+-- compact
+abbrev pub compact_calls : Result Compact CompactFault → List (Event × Reply)
+compact_calls (Ok (compact.More left)) = (event.Compact, reply.More left) ∷ []
+compact_calls (Ok (compact.Done generation)) = (event.Compact, reply.Done generation) ∷ []
+compact_calls (Err fault.Last) = (event.Compact, reply.Last) ∷ []
+compact_calls (Err (fault.DiskFault doubt)) = (event.Compact, reply.DiskFault doubt) ∷ []
+compact_calls (Err fault.Worn) = []
+compact_calls (Err fault.NoMemory) = (event.Compact, reply.NoMemory) ∷ []
 
 -- of every other call, by its reply where it has an answer
 abbrev pub calls : {X : Type 0} → Event → (X → Reply) → Result X CallFault → List (Event × Reply)

@@ -13,7 +13,7 @@ use Rattle.store_machine.specs.declared.machine.Held.{Held}
 use Rattle.store_machine.specs.declared.machine.History.{History}
 use Rattle.store_machine.specs.declared.machine.State.{State}
 use Rattle.store_machine.specs.declared.machine.Step.{Step}
-use Rattle.store_machine.specs.declared.machine.TheConstants.{LAST_IDENTIFIER}
+use Rattle.store_machine.specs.declared.machine.TheConstants.{LAST_GENERATION, LAST_IDENTIFIER}
 use Rattle.record_versions.specs.Entries.{chain_of}
 use Rattle.store_core.specs.Kept.{IsEntryOf, Kept, KeptTerm, Lists, status_of}
 
@@ -35,7 +35,8 @@ pub record Served : Type 0 where
 abbrev pub served : State → Served
 served s = record { history = s.history; limit = s.limit; pins = s.pins; kept = s.kept }
 
--- it alone as a state: with nothing copied or in doubt and no fault, and the whole history on the disk
+-- It alone as a state: with nothing copied or in doubt and no fault, and a base at the history's. It has no disk to
+-- compact, so no generation is left.
 abbrev pub alone : Served → State
 alone s = record {
   history = s.history;
@@ -43,7 +44,7 @@ alone s = record {
   pins = s.pins;
   kept = s.kept;
   base = s.history.version;
-  generation = 0;
+  generation = LAST_GENERATION;
   copy = None;
   doubt = None;
   finish = None;
@@ -79,12 +80,20 @@ pub record StandsFor (store : StoreTerm) (s : Served) : Type 0 where
 abbrev pub IsStore : StoreTerm → Type 0
 IsStore store = (s : Served) × StandsFor store s
 
--- the store is at a state, which serves, and in which no copy runs and none's finish is in doubt
+-- The store serves its part of a state. What the state has of disks is free.
+pub record IsServing (store : StoreTerm) (s : State) : Type 0 where
+  pub sound : IsSound s
+  pub serves : s.serves ≡ true
+  pub stands : StandsFor store (served s)
+
+-- The store alone is at a state, which serves. No copy runs and none's finish is in doubt. A store in memory has no disk
+-- to compact, so no generation is left.
 pub record IsAt (store : StoreTerm) (s : State) : Type 0 where
   pub sound : IsSound s
   pub serves : s.serves ≡ true
   pub copy : s.copy ≡ None
   pub finish : s.finish ≡ None
+  pub generation : s.generation ≡ LAST_GENERATION
   pub stands : StandsFor store (served s)
 
 -- it is so too at a state with other owners
@@ -92,7 +101,7 @@ abbrev pub AsksNoOwner : Type 0
 AsksNoOwner = (store : StoreTerm) (s t : State) → SameButOwners s t
     → (StandsFor store (served s) → StandsFor store (served t)) × (IsAt store s → IsAt store t)
 
--- nothing was committed, and nothing is held
+-- nothing was committed, and nothing is held. The disks are of the first generation
 abbrev pub empty : ℕ → State
 empty commits = record {
   history = begun;

@@ -1,7 +1,7 @@
 //! The kept entries of a store, and an index of the prints of those that have a record.
 ghost use Rattle.std.specs.Prelude.{◌≡◌, ◌==◌, ◌+◌, ◌^◌, ◌++◌, ◌<◌, ◌≤◌, ◌↔◌, ℕ, [], ◌∷◌, All, Contains, IfSome, List, OnOk, Option, Some, filter, if◌then◌else◌, length, option_copied, option_map};
 ghost use Rattle.std.specs.Arc.{arc_value};
-ghost use Rattle.record_versions.specs.Entries.{IsLatest, IsRead, chain_of, entries, is_other};
+ghost use Rattle.record_versions.specs.Entries.{IsLatest, IsLeastId, IsRead, chain_of, entries, is_other};
 ghost use Rattle.store_machine.specs.declared.machine.Entry.{Entry};
 ghost use Rattle.store_core.specs.Kept.{AreIndexed, HasEntry, HasRoom, IsNextId, Kept, Lists, kept_of, with_print};
 ghost use Rattle.store_core.specs.Records.{Shared};
@@ -116,6 +116,13 @@ impl KeptEntries {
     {
         let (id, _) = self.index.next(want, (from, 0), hint)?;
         Some(id)
+    }
+
+    /// The least identifier from `from` on that has an entry. It takes no memory.
+    pub fn next_id(&self, from: u32) -> Option<u32>
+        ensures { IsLeastId from self.now.chains result }
+    {
+        self.chains.next_id(from)
     }
 
     /// Takes out each entry that is its identifier's latest at none of some versions, and returns how many. It takes no

@@ -1,5 +1,7 @@
-//! The laws of the machine on which the store's proofs stand, and one of stores.
+//! The laws of the machine on which the store's proofs stand, and those of stores.
 ghost use Rattle.store_machine.specs.Laws.{CommitsChange, KeptIsRead, RunsStaySound, SnapshotsStay, StatesStay};
+ghost use Rattle.store_core.specs.Beside.{CallsServe};
+ghost use Rattle.store_core.specs.Copied.{KeepsCopied, KeepsUsed};
 ghost use Rattle.store_core.specs.Stored.{AsksNoOwner};
 
 use store_machine::{
@@ -21,9 +23,23 @@ pub(crate) fn laws()
     states_stay();
 }
 
+/// A pin, a fetch, an unpin, a look and the counts of a store alone are the same steps at every state that it serves: a
+/// copy may run there, and a commit or a finish be in doubt, and what the state has of disks stays.
+pub fn calls_serve_any_disks()
+    ensures { CallsServe }
+{
+    runs_stay_sound();
+}
+
 /// Whose the pins are makes no difference: a store stands for a state as for one with other owners.
 pub fn stores_ask_no_owner()
     ensures { AsksNoOwner }
 {
     owners_are_free();
 }
+
+/// A state that serves keeps each version that is in use: those of pins, that of a copy that runs, and the head's.
+pub fn versions_in_use_are_kept()
+    ensures used { KeepsUsed }
+    ensures copied { KeepsCopied }
+{}

@@ -12,13 +12,13 @@ mod service;
 mod store;
 mod words;
 
-pub use laws::stores_ask_no_owner;
+pub use laws::{calls_serve_any_disks, stores_ask_no_owner, versions_in_use_are_kept};
 pub use page::Page;
 pub use record::{Record, Recorder};
 pub use record_versions::Steps;
 pub use service::Service;
 pub use store::{MOST_COMMITS, Store};
-pub use words::{CallFault, Change, CommitFault, Look, Stats};
+pub use words::{CallFault, Change, CommitFault, Compact, CompactFault, IdState, Look, Stats};
 
 #[cfg(test)]
 mod tests;

@@ -5,19 +5,19 @@ ghost use Rattle.store_machine.specs.History.{IsId};
 ghost use Rattle.store_machine.specs.Runs.{IsCalm, IsRun};
 ghost use Rattle.store_machine.specs.declared.machine.State.{State};
 ghost use Rattle.store_machine.specs.declared.machine.Step.{Step};
-ghost use Rattle.store_core.specs.Calls.{Calls, IsReturned, IsTaken, NeedsNone, NotRaised, SameHeld, WornAs, is_worn, is_worn_out};
+ghost use Rattle.store_core.specs.Calls.{Calls, IsReturned, IsTaken, NeedsNone, NotRaised, SameHeld, WornAs, is_compact_worn, is_worn, is_worn_out};
 ghost use Rattle.store_core.specs.Records.{Shared};
-ghost use Rattle.store_core.specs.Replies.{IsLookOf, commit_calls, fetch_calls, look_calls, pin_calls, prune_calls, stats_calls, unpin_calls};
+ghost use Rattle.store_core.specs.Replies.{IsLookOf, commit_calls, compact_calls, fetch_calls, look_calls, pin_calls, prune_calls, stats_calls, unpin_calls};
 
 use crate::page::{MOST_RECORDS, Page};
-use crate::words::{CallFault, Change, CommitFault, Look, Stats};
+use crate::words::{CallFault, Change, CommitFault, Compact, CompactFault, Look, Stats};
 use chem_core::Print;
 use record_versions::Steps;
 use snap_registry::Pin;
 use std::sync::ledger::Ledger;
 
 /// The machine as one caller sees it. Each call is a step of one run, in which others may have steps too; a call that
-/// is answered `Worn` is none. No call but `commit`, `fetch` and `look` wants memory.
+/// is answered `Worn` is none. No call but `commit`, `fetch`, `look` and `compact` wants memory.
 pub trait Service {
     /// The states that the value may be at, as far as its caller knows.
     ghost at: { Self → State → Type 0 };
@@ -119,6 +119,17 @@ pub trait Service {
         ensures worn { WornAs (worn self.old) (worn self.new) (is_worn result) }
         ensures held { SameHeld (holds self.old) (holds self.new) }
         ensures memory { NeedsNone result }
+        ensures bounds { NotRaised (bounds self.old) (bounds self.new) };
+
+    /// One step of a compaction, by which a copy of the store takes the place of the disk that is read. Where no copy
+    /// runs one starts at the head; where it lacks items the next 256 are written; where it lacks none it takes that
+    /// place. Commits may be made meanwhile, and each is an item more. The history, the pins and the kept entries are as
+    /// before.
+    fn compact(&mut self) -> Result<Compact, CompactFault>
+        ensures call { (s : State) → at self.old s
+            → Calls stretch (owns self.old) self.old self.new s (compact_calls result) }
+        ensures worn { WornAs (worn self.old) (worn self.new) (is_compact_worn result) }
+        ensures held { SameHeld (holds self.old) (holds self.new) }
         ensures bounds { NotRaised (bounds self.old) (bounds self.new) };
 
     /// No step at all.

@@ -1,27 +1,35 @@
 //! The store in memory: the kept entries of each identifier, the pins, and counts.
 //!
 //! It keeps no history. A commit and a look read the latest entry of one identifier. A fetch goes from one identifier
-//! to the next that has an entry whose print holds what is wanted. A prune goes over the entries once.
-ghost use Rattle.std.specs.Prelude.{◌≡◌, ◌≤◌, ◌<◌, ◌+◌, ◌^◌, ◌++◌, [], All, drop, false, IfErr, IfOk, IfSome, length, MatchOption, None, OnErr, OnOk, option_copied, option_map, Some, true};
+//! to the next that has an entry whose print holds what is wanted, and a copy to the next that has one at all. A prune
+//! goes over the entries once.
+ghost use Rattle.std.specs.Prelude.{◌≡◌, ◌≤◌, ◌<◌, ◌+◌, ◌^◌, ◌++◌, [], ◌∷◌, All, Err, false, IfErr, IfOk, IfSome, length, map, MatchOption, None, OnErr, OnOk, option_copied, option_map, Some, true};
 ghost use Rattle.std.specs.Arc.{arc_value};
-ghost use Rattle.store_machine.specs.History.{IsId, snapshot};
+ghost use Rattle.std.specs.FinMap.{entries};
+ghost use Rattle.std.specs.Option.{option_to_list};
+ghost use Rattle.store_machine.specs.History.{IsId, head, snapshot};
 ghost use Rattle.store_machine.specs.Machine.{IsPage, committed};
 ghost use Rattle.store_machine.specs.declared.machine.State.{State};
+ghost use Rattle.store_machine.specs.declared.machine.TheConstants.{LAST_IDENTIFIER};
 ghost use Rattle.store_core.specs.Based.{IsBefore, IsGiven, based};
-ghost use Rattle.store_core.specs.Calls.{Calls, NotRaised, SameHeld, WornAs, is_worn, is_worn_out};
+ghost use Rattle.store_core.specs.Calls.{Calls, NotRaised, SameHeld, WornAs, is_compact_worn, is_worn, is_worn_out};
+ghost use Rattle.store_core.specs.Copied.{IsFirstFrom, KeepsCopy, KeepsVersion, Prunes, state_of};
 ghost use Rattle.store_core.specs.Kept.{HasPrint, kept_of, record_of, status_in};
 ghost use Rattle.store_core.specs.Prepared.{IsPrepared, IsWhy};
 ghost use Rattle.store_core.specs.Records.{IsRecord, Shared, founds};
-ghost use Rattle.store_core.specs.Replies.{change_of, fetch_calls};
+ghost use Rattle.store_core.specs.Replies.{change_of, compact_calls, fetch_calls};
 ghost use Rattle.store_core.specs.Steps.{AreSteps};
-ghost use Rattle.store_core.specs.Stored.{HoldsPin, IsAt, Served, StandsFor, Stretches, empty, served};
+ghost use Rattle.store_core.specs.Stored.{HoldsPin, IsAt, Served, StandsFor, Stretches, alone, empty, served};
 
 use crate::kept::KeptEntries;
 use crate::laws::laws;
 use crate::page::{MOST_RECORDS, Page};
 use crate::record::Record;
 use crate::service::Service;
-use crate::words::{CallFault, Change, CommitFault, Look, Stats, counted};
+use crate::words::{
+    CallFault, Change, CommitFault, Compact, CompactFault, IdState, Look, Stats, counted,
+};
+use arrayvec::ArrayVec;
 use chem_core::Print;
 use mol_finish::one_structure;
 use record_versions::Steps;
@@ -35,8 +43,11 @@ use std::sync::ledger::Ledger;
 /// The most commits that a store may have.
 pub const MOST_COMMITS: u32 = 16_777_215;
 
-// The most versions that are in use: those of 64 pins, and the head's.
-const MOST_IN_USE: usize = 65;
+// The most versions that are in use: those of 64 pins, that of a copy, and the head's.
+const MOST_IN_USE: usize = 66;
+
+// Versions in use.
+type InUse = ArrayVec<u32, MOST_IN_USE>;
 
 /// A store with any number of callers. Contracts see its entries, pins and counts.
 #[derive(Drop)]
@@ -74,11 +85,11 @@ impl Model for Store {
 }
 
 impl Store {
-    /// A store without commits, which takes so many. Takes no memory.
+    /// A store without commits, which takes so many. It has no disk to compact. Takes no memory.
     pub fn fresh(alloc: Global, commits: u32) -> Store
         requires some { 1 ≤ commits }
         requires few { commits ≤ MOST_COMMITS }
-        ensures { IsAt result (empty commits) }
+        ensures { IsAt result (alone (served (empty commits))) }
     {
         Store {
             kept: KeptEntries::new(alloc),
@@ -139,6 +150,15 @@ impl Store {
         self.version
     }
 
+    /// How many identifiers have a state at the head. Takes no memory.
+    pub fn states(&self) -> u32
+        ensures count { (s : State) → StandsFor self.now (served s)
+            → result ≡ length (entries (snapshot s.history (head s.history))) }
+        ensures within { result ≤ LAST_IDENTIFIER + self.now.version }
+    {
+        self.live + self.withdrawn
+    }
+
     /// Finds whether a change may be made, and takes the memory for it: the first half of a commit. It stands for the
     /// same afterwards.
     pub fn prepare(&mut self, change: &Change) -> Result<(), CommitFault>
@@ -186,6 +206,53 @@ impl Store {
         ensures version { self.new.version ≡ self.old.version }
     {
         self.limit = commits;
+    }
+
+    /// The first identifier from `from` on that has a state at a version, with this state. `None` where none has one.
+    /// A copy reads its version so. Takes no memory.
+    pub fn next_state(&self, from: u32, version: u32) -> Option<IdState<'_>>
+        ensures first { (s : State) → StandsFor self.now (served s) → KeepsVersion s version
+            → IsFirstFrom from (entries (snapshot s.history version)) (option_map state_of result) }
+        ensures in_range { IfSome result (λ k. IsId k.id) }
+    {
+        laws();
+        let mut place = from;
+        while let Some(id) = self.kept.next_id(place) {
+            if let Some((made_at, entry)) = self.kept.latest(id, version) {
+                return Some(IdState {
+                    id,
+                    made_at,
+                    entry: entry.as_ref(),
+                });
+            }
+            place = id + 1;
+        }
+        None
+    }
+
+    /// Drops the entries that are read neither at a pinned version nor at the head, nor at the version of a copy, where
+    /// one runs, and answers how many. Takes no memory.
+    pub fn prune_but(&mut self, copied: Option<u32>) -> u32
+        ensures pruned { (s : State) → StandsFor self.old (served s) → KeepsCopy copied s
+            → Prunes self.new s result }
+        ensures pins { self.new.pins ≡ self.old.pins }
+        ensures version { self.new.version ≡ self.old.version }
+    {
+        laws();
+        let versions = self.in_use(copied);
+        self.kept.prune(versions.as_slice())
+    }
+
+    // The versions of the pins, one more, where there is one, and the head's.
+    fn in_use(&self, more: Option<u32>) -> InUse
+        ensures { result.items ≡ map (λ p. p.version) self.now.pins
+            ++ (option_to_list more ++ self.now.version ∷ []) }
+    {
+        let mut versions = InUse::new();
+        append(&mut versions, self.registry.live());
+        append(&mut versions, more.as_slice());
+        versions.push(self.version);
+        versions
     }
 
     // Fills an empty page of a pinned version, as a service does.
@@ -299,10 +366,7 @@ impl Service for Store {
 
     fn prune(&mut self) -> Result<u32, CallFault> {
         laws();
-        let pinned = self.registry.live();
-        let mut versions = [self.version; MOST_IN_USE];
-        put_in_front(&mut versions, pinned);
-        Ok(self.kept.prune(&versions[..=pinned.len()]))
+        Ok(self.prune_but(None))
     }
 
     fn look(&mut self, id: u32) -> Result<Look, CallFault> {
@@ -318,6 +382,18 @@ impl Service for Store {
             kept: self.kept.count(),
             pins: self.registry.live().len() as u32,
         })
+    }
+
+    // There is no disk to compact.
+    fn compact(&mut self) -> Result<Compact, CompactFault>
+        ensures last { result ≡ Err CompactFault.Last }
+        ensures call { (s : State) → IsAt self.old s
+            → Calls Stretches (λ _. true) self.old self.new s (compact_calls result) }
+        ensures worn { WornAs ⊥ ⊥ (is_compact_worn result) }
+        ensures held { SameHeld (HoldsPin self.old) (HoldsPin self.new) }
+        ensures bounds { NotRaised (None, None) (None, None) }
+    {
+        Err(CompactFault::Last)
     }
 
     ghost stays = { stays };
@@ -371,10 +447,12 @@ fn screened<'a>(
     }
 }
 
-// Puts some versions in place of the first.
-fn put_in_front(versions: &mut [u32], first: &[u32])
-    requires { length first.now ≤ length versions.old }
-    ensures { versions.new ≡ first.now ++ drop (length first.now) versions.old }
+// Puts some versions behind others.
+fn append(versions: &mut InUse, more: &[u32])
+    requires room { length versions.old.items + length more.now ≤ MOST_IN_USE }
+    ensures { versions.new.items ≡ versions.old.items ++ more.now }
 {
-    versions[..first.len()].copy_from_slice(first);
+    let Ok(()) = versions.try_extend_from_slice(more) else {
+        unreachable!()
+    };
 }

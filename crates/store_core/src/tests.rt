@@ -8,7 +8,7 @@ ghost use Rattle.store_core.specs.Records.{IsRecord};
 ghost use Rattle.store_core.specs.Stored.{HoldsPin};
 
 use crate::laws::laws;
-use crate::{Change, CommitFault, Look, Page, Record, Service, Stats, Steps, Store};
+use crate::{Change, CommitFault, CompactFault, Look, Page, Record, Service, Stats, Steps, Store};
 use chem_core::Print;
 use mol_finish::{Format, one_structure};
 use snap_registry::Pin;
@@ -252,5 +252,49 @@ fn a_store_goes_on_from_its_base(rt: HostRuntime) -> Result<(), Fail> {
         Ok(6)
     );
     assert_eq!(rt; live_since(&mut store, 1)?, Some(6));
+    assert_eq!(rt; store.compact(), Err(CompactFault::Last));
+    Ok(())
+}
+
+// What a copy of a version finds from an identifier on: the identifier, the version that made its state, and whether it
+// is live.
+fn found(store: &Store, from: u32, version: u32) -> Option<(u32, u32, bool)> {
+    let state = store.next_state(from, version)?;
+    Some((state.id, state.made_at, state.entry.is_some()))
+}
+
+// Withdraws 2, revises 1 and registers 5. A copy may begin after the first of these.
+fn change_beside_a_copy(alloc: Global, store: &mut Store) -> Result<u32, Fail> {
+    commit(store, Change::Withdraw(2))?;
+    let begin = store.version();
+    commit(store, Change::Revise(record(alloc, 1, b"CC")?))?;
+    commit(store, Change::Register(record(alloc, 5, b"O")?))?;
+    Ok(begin)
+}
+
+#[test]
+fn a_copy_reads_its_version_beside_commits(rt: HostRuntime) -> Result<(), Fail> {
+    let alloc = rt.alloc();
+    let mut store = Store::fresh(alloc, 5);
+    register_two(alloc, &mut store)?;
+    let begin = change_beside_a_copy(alloc, &mut store)?;
+    // the ammonia is read by nobody
+    assert_eq!(rt; store.prune_but(Some(begin)), 1);
+    let rows = [
+        (0, 3, Some((1, 1, true))),
+        (2, 3, Some((2, 3, false))),
+        (3, 3, None),
+        (0, 5, Some((1, 4, true))),
+        (3, 5, Some((5, 5, true))),
+        (6, 5, None),
+    ];
+    for (from, version, state) in rows {
+        assert_eq!(rt;
+            found(&store, from, version),
+            state,
+            "from {from} on at {version}"
+        );
+    }
+    assert_eq!(rt; store.prune()?, 1);
     Ok(())
 }

@@ -143,6 +143,14 @@ impl Look {
     }
 }
 
+/// What an identifier is at a version, with the version that made it so: its record, or none where it is withdrawn.
+#[derive(Clone, Copy)]
+pub struct IdState<'a> {
+    pub id: u32,
+    pub made_at: u32,
+    pub entry: Option<&'a Arc<Record>>,
+}
+
 /// Counts: the head's version, live and withdrawn identifiers there, kept entries, and pins.
 #[derive(Clone, Copy, Debug, PartialEq, Eq)]
 pub struct Stats {
@@ -171,5 +179,42 @@ impl From<AllocError> for CallFault {
 
     fn from(_: AllocError) -> CallFault {
         CallFault::NoMemory
+    }
+}
+
+/// What one step of a compaction did.
+#[derive(Clone, Copy, Debug, PartialEq, Eq)]
+pub enum Compact {
+    /// A copy runs, and lacks so many items.
+    More { left: u32 },
+    /// The copy took the place of the disk that was read. It is of this generation.
+    Done { generation: u32 },
+}
+
+/// Why a step of a compaction is not made.
+#[derive(Clone, Copy, Debug, PartialEq, Eq, Error)]
+pub enum CompactFault {
+    /// No generation is left, so that no copy may start. A store in memory has none.
+    #[error("the last generation")]
+    Last,
+    /// A disk failed, and the copy is given up. With `doubt` a crash may yet show it in place of the disk that is read.
+    #[error("the disk failed")]
+    DiskFault { doubt: bool },
+    /// The service answers no call any more.
+    #[error("worn")]
+    Worn,
+    /// Some of the step's items may be written.
+    #[error("out of memory")]
+    NoMemory,
+}
+
+impl From<AllocError> for CompactFault {
+    ghost use Rattle.std.specs.Prelude.{◌≡◌};
+    ghost use Rattle.store_core.specs.declared.words.CompactFault.TheVariants.{NoMemory};
+
+    ghost from_gives = { λ _ e. e ≡ NoMemory };
+
+    fn from(_: AllocError) -> CompactFault {
+        CompactFault::NoMemory
     }
 }

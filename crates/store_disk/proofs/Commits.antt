@@ -1,36 +1,39 @@
 -- A commit on two disks, as a step of the machine.
-use Rattle.std.proofs.Common.{◌≡◌, ◌⊎◌, ◌∙◌, ap, arith, Err, false, inl, inr, IsErrAnd, length-append, List, [], ◌∷◌, MatchOption, None, Ok, Option, option_map, refl, Result, Some, subst, sym, true, ℕ}
+use Rattle.std.proofs.Common.{◌≡◌, ◌⊎◌, ◌+◌, ◌≤◌, ◌∙◌, ap, arith, Err, false, inl, inr, IsErrAnd, length, length-append, List, [], ◌∷◌, None, Ok, Option, option_map, refl, Result, Some, subst, sym, true, ℕ}
 use Rattle.disk_edge.specs.Disk as disk
 use Rattle.disk_edge.specs.Disk.{DiskModel}
 use Rattle.disk_pair.specs.Gives.{AppendGives, EndsOlder, OnFault}
 use Rattle.disk_pair.specs.Pairs.{History as Written, MayShow as PairMayShow, PairOpens, PairOpensTo as PairMayOpen, State as PairState, with_commit}
 use Rattle.disk_pair.specs.Stands.{StandsFor as StandsOnDisks}
-use Rattle.disk_pair.specs.Term.{AtEachPair, Goes, OfEachPair, Paired, disk_a, disk_b}
+use Rattle.disk_pair.specs.Term.{AtEachPair, Goes, OfEachPair, Paired, disk_a, disk_b, progress_of}
 use Rattle.disk_pair.specs.declared.fault.PutFault.{PutFault}
 use Rattle.disk_pair.specs.declared.fault.PutFault.TheVariants as put
 use Rattle.store_core.specs.Calls.{Calls}
 use Rattle.store_core.specs.Replies.{change_of, commit_calls}
 use Rattle.store_core.specs.Stored as memory
-use Rattle.store_core.specs.Stored.{StoreTerm as Memory, served}
+use Rattle.store_core.specs.Stored.{IsServing, StoreTerm as Memory, served}
 use Rattle.store_core.specs.Prepared.{IsWhy}
 use Rattle.store_core.specs.declared.words.Change.{Change as Asked}
 use Rattle.store_core.specs.declared.words.CommitFault.{CommitFault}
 use Rattle.store_core.specs.declared.words.CommitFault.TheVariants as fault
+use Rattle.journal_core.specs.declared.header.Header.{Header}
+use Rattle.store_machine.specs.History.{head}
 use Rattle.store_machine.specs.Laws.{RunsStaySound}
-use Rattle.store_machine.specs.Machine.{CommitGives, EndsDoubts, Gives, MayAdd, Rose, SomeRose, StaysOrEnds, committed, one_more}
+use Rattle.store_machine.specs.Machine.{CommitGives, EndsDoubts, Gives, MayAdd, Rose, SomeRose, StaysOrEnds, committed}
 use Rattle.store_machine.specs.Rebases.{RebasesGrow, RebasesKeepHeads}
 use Rattle.store_machine.specs.declared.machine.Change.{Change}
-use Rattle.store_machine.specs.declared.machine.Copying.{Copying}
 use Rattle.store_machine.specs.declared.machine.Event.TheVariants as event
 use Rattle.store_machine.specs.declared.machine.Faults.{Faults}
 use Rattle.store_machine.specs.declared.machine.Reply.{Reply}
 use Rattle.store_machine.specs.declared.machine.Reply.TheVariants as reply
 use Rattle.store_machine.specs.declared.machine.State.{State}
-use Rattle.store_disk.specs.OnDisk.{IfBothTold, LacksNoMore, StandsFor, StoreTerm, on_pair, whole_copy}
+use Rattle.store_disk.specs.Copies.{queued}
+use Rattle.store_disk.specs.OnDisk.{CopyTerm, Follow, HasCopy, HasHeader, IfBothTold, IsPayload, IsReady, StandsFor, StoreTerm, on_pair, whole_copy}
 use Rattle.store_disk.specs.Payloads.{payload}
 use Rattle.store_disk.specs.Faults.{commit_fault}
 use Rattle.store_disk.specs.Stored.{Shows, Stretches, times, told-before}
 use Rattle.store_disk.proofs.Bounds.{rose}
+use Rattle.store_disk.proofs.Copies.{follow-more, has-more, header-more}
 use Rattle.store_disk.proofs.Lifts.{one-call, sound-after, step_of, still-call}
 use Rattle.store_disk.proofs.OnDisks.{after-commit, shown-after, shown-with}
 use Rattle.store_disk.proofs.Steps.{all}
@@ -55,9 +58,9 @@ module _ {D : Type 0} (model : DiskModel D)
     memory = record { sound = h.memory.sound; serves = h.memory.serves; stands = stands };
     header = h.header;
     pair = h.pair;
-    lacks = h.lacks;
-    counts = h.counts;
     copy = h.copy;
+    copied = h.copied;
+    counts = h.counts;
   }
 
   -- nothing was done
@@ -88,13 +91,14 @@ module _ {D : Type 0} (model : DiskModel D)
 
 module _ {D : Type 0} (model : DiskModel D) (law : RunsStaySound) (heads : RebasesKeepHeads) (grow : RebasesGrow)
     (store : StoreTerm D) (s : State) (h : StandsFor model store s) (c : Asked) (may : MayAdd s (change_of c))
-    (m : Memory) (pair : Paired D) (goes_a : Goes model (disk_a store.pair) (disk_a pair))
+    (m : Memory) (pair : Paired D) (copies : Option CopyTerm) (goes_a : Goes model (disk_a store.pair) (disk_a pair))
     (goes_b : Goes model (disk_b store.pair) (disk_b pair))
-    (kept : pair.journal.header ≡ store.pair.journal.header) (p : List ℕ) (written : p ≡ payload (change_of c))
+    (kept : pair.journal.header ≡ store.pair.journal.header)
+    (progress : progress_of pair.other ≡ progress_of store.pair.other) (p : List ℕ) (written : p ≡ payload (change_of c))
     (given : (t : PairState) → StandsOnDisks model store.pair t → AtEachPair model store.pair pair
     (PairMayOpen (λ w. PairMayShow t w ⊎ (w ≡ with_commit t.now p)))) where
   abbrev new : StoreTerm D
-  new = record { memory = m; pair = pair }
+  new = record { memory = m; pair = pair; copy = copies }
 
   abbrev faults : Faults
   faults = record { a = model.faults (disk_a pair); b = model.faults (disk_b pair) }
@@ -123,11 +127,12 @@ module _ {D : Type 0} (model : DiskModel D) (law : RunsStaySound) (heads : Rebas
 
   -- the step of this commit, with its row
   step : (t : State) (r : Reply) → t.faults ≡ faults → CommitGives s (change_of c) r t
-      → memory.StandsFor m (served t) → t.serves ≡ true → t.copy ≡ None
+      → memory.StandsFor m (served t) → t.serves ≡ true → HasCopy t.history t.copy copies
+      → HasHeader t.generation t.history copies (progress_of store.pair.other)
       → (on_pair t).now.header ≡ (on_pair s).now.header
       → IfBothTold model pair (StandsOnDisks model pair (on_pair t))
       → Calls (Stretches model) all store new s ((event.Commit (change_of c), r) ∷ [])
-  step t r counts row stands serving none same disks =
+  step t r counts row stands serving has header same disks =
       let e = event.Commit (change_of c) in
       let gives : Gives s 0 e r t = (
         (
@@ -148,24 +153,31 @@ module _ {D : Type 0} (model : DiskModel D) (law : RunsStaySound) (heads : Rebas
         };
         header = kept ∙ (h.header ∙ sym same);
         pair = disks;
-        lacks = subst (λ (o : Option Copying). MatchOption o (Unit {0}) (LacksNoMore t)) (sym none) tt;
+        copy = has;
+        copied = subst (HasHeader t.generation t.history copies) (sym progress) header;
         counts = counts;
-        copy = none;
       })
       goes_a.past goes_b.past goes_a.untold goes_b.untold (inl tt) (λ other. absurd (other tt))
       (λ l is k it x y i j. shows t r x y (stood (given (on_pair s)) l is k it l is k it x i y j))
 
   pub done : memory.StandsFor m (served (committed s (change_of c)))
-      → ((t : PairState) → StandsOnDisks model store.pair t
+      → copies ≡ option_map (queued p) store.copy → ((t : PairState) → StandsOnDisks model store.pair t
       → StandsOnDisks model pair (record t { now = with_commit t.now p; commit = None; finish = None }))
       → Gone model store new s c (Ok m.version)
-  done ends disks =
+  done ends more disks =
       let told = change_of c in
       let t : State = record (committed s told) { faults = faults } in
       let after = after-commit grow s told h.memory.sound in
+      let past = h.memory.sound.bases.copy in
+      let is = more ∙ ap (λ q. option_map (queued q) store.copy) written in
       step t (reply.Committed m.version) refl
       (may, omega (arith, ends.version, length-append s.history.commits (told ∷ [])), refl)
-      ends h.memory.serves (ap (option_map one_more) h.copy)
+      ends h.memory.serves
+      (subst (λ (o : Option CopyTerm). HasCopy t.history t.copy o) (sym is)
+      (has-more grow s.history told s.copy past store.copy h.copy))
+      (subst (λ (o : Option CopyTerm). HasHeader s.generation t.history o (progress_of store.pair.other)) (sym is)
+      (header-more grow s.history told s.copy past store.copy h.copy s.generation (progress_of store.pair.other)
+      h.copied))
       (ap (λ (x : PairState). x.now.header) after)
       (stood (λ stands. subst (StandsOnDisks model pair)
       (ap (λ (q : List ℕ). record (on_pair s) {
@@ -174,7 +186,7 @@ module _ {D : Type 0} (model : DiskModel D) (law : RunsStaySound) (heads : Rebas
         finish = None;
       }) written ∙ sym after) (disks (on_pair s) stands)))
 
-  module _ (ends : memory.StandsFor m (served s)) where
+  module _ (ends : memory.StandsFor m (served s)) (still : copies ≡ store.copy) where
     -- after a fault the state is as before, with these doubts
     abbrev then : Option Change → Option ℕ → State
     then doubt finish = record s { doubt = doubt; finish = finish; faults = faults }
@@ -184,7 +196,10 @@ module _ {D : Type 0} (model : DiskModel D) (law : RunsStaySound) (heads : Rebas
         → IfBothTold model pair (StandsOnDisks model pair (on_pair (then doubt finish)))
         → Calls (Stretches model) all store new s ((event.Commit (change_of c), r) ∷ [])
     with-doubts doubt finish r row disks =
-        step (then doubt finish) r refl row ends h.memory.serves h.copy refl disks
+        step (then doubt finish) r refl row ends h.memory.serves
+        (subst (HasCopy s.history s.copy) (sym still) h.copy)
+        (subst (λ (o : Option CopyTerm). HasHeader s.generation s.history o (progress_of store.pair.other)) (sym still)
+        h.copied) refl disks
 
     -- the doubts that two disks have are ones of the machine
     record Older : Type 0 where
@@ -276,3 +291,45 @@ module _ {D : Type 0} (model : DiskModel D) (law : RunsStaySound) (heads : Rebas
         (stood (gives (on_pair s)))
     faulted put.NoMemory gives failed =
         older reply.NoMemory (λ t ended counts. ended) (stood (gives (on_pair s)))
+
+-- what is in memory serves the state after a commit, and the store is ready
+commit-serves : RunsStaySound → (old new : Memory) (s : State) (c : Change) → MayAdd s c → IsServing old s
+    → memory.StandsFor new (served (committed s c)) → IsServing new (committed s c)
+commit-serves law old new s c may h stands =
+    let r = reply.Committed (head s.history + 1) in
+    let gives : Gives s 0 (event.Commit c) r (committed s c) =
+    ((h.serves, (omega arith, omega arith)), (may, refl, refl)) in
+    record {
+      sound = sound-after law s (committed s c) 0 (event.Commit c) r gives h.sound;
+      serves = h.serves;
+      stands = stands;
+    }
+
+pub commit-ready : {D : Type 0} → RunsStaySound → RebasesGrow → (old new : Memory) (was now : Paired D)
+    (copy copies : Option CopyTerm) (c : Asked) (p : List ℕ) → p ≡ payload (change_of c) → IsPayload p
+    → copies ≡ option_map (queued p) copy → progress_of now.other ≡ progress_of was.other
+    → now.journal.header ≡ was.journal.header → now.journal.place ≡ was.journal.place + 5 + length p
+    → ((s : State) → memory.StandsFor old (served s)
+    → MayAdd s (change_of c) × memory.StandsFor new (served (committed s (change_of c))))
+    → new.version ≡ old.version + 1 → new.version ≤ 16777215 → IsReady old was copy → IsReady new now copies
+commit-ready law grow old new was now copy copies c p written fit is progress header moved makes version few h =
+    let s : State = h.stands.0 in
+    let serving = h.stands.1 in
+    let made = makes s serving.stands in
+    let told = change_of c in
+    record {
+      stands = (
+        committed s told,
+        commit-serves law old new s told made.0 serving made.1,
+        subst (HasCopy (committed s told).history (committed s told).copy)
+            (sym (is ∙ ap (λ q. option_map (queued q) copy) written))
+            (has-more grow s.history told s.copy serving.sound.bases.copy copy h.stands.2),
+      );
+      few = few;
+      bases = omega (arith, h.bases, ap (λ (k : Header). k.base_count) header);
+      place = omega (arith, moved, h.place, version, fit.1, ap (λ (k : Header). k.base_count) header);
+      copying = subst (λ n. Follow n copies (progress_of now.other)) (sym version)
+          (subst (λ (o : Option CopyTerm). Follow (old.version + 1) o (progress_of now.other)) (sym is)
+          (subst (Follow (old.version + 1) (option_map (queued p) copy)) (sym progress)
+          (follow-more old.version copy (progress_of was.other) p fit h.copying)));
+    }

@@ -10,11 +10,11 @@ use Rattle.disk_edge.specs.Failures.{bound_of}
 use Rattle.disk_edge.specs.Medium.{Medium, model}
 use Rattle.disk_edge.specs.MediumLaws.{within}
 use Rattle.disk_edge.specs.declared.failures.Failures.{Failures}
-use Rattle.disk_pair.specs.Changed.{changed, changed_other}
-use Rattle.disk_pair.specs.Pairs.{History as Written, PairOpens}
-use Rattle.disk_pair.specs.Stands.{Beside, Has}
+use Rattle.disk_pair.specs.Changed.{changed, changed_at, changed_other, is_current}
+use Rattle.disk_pair.specs.Pairs.{History as Written, PairOpens, State as PairState}
+use Rattle.disk_pair.specs.Stands.{Beside, Has, StandsFor as PairStandsFor}
 use Rattle.disk_pair.specs.Term.{Paired, disk_a, disk_b, disk_of}
-use Rattle.disk_pair.specs.declared.choice.Which.TheVariants.{First}
+use Rattle.disk_pair.specs.declared.choice.Which.{Which}
 use Rattle.disk_pair.specs.declared.other.Other.{Other}
 use Rattle.disk_pair.specs.declared.other.Other.TheVariants.{Idle, Copy}
 use Rattle.journal_core.specs.Fronts.{IsFront, IsOpen, no_base}
@@ -35,7 +35,7 @@ use Rattle.store_machine.specs.declared.machine.State.{State}
 use Rattle.store_machine.specs.declared.machine.Status.{Status}
 use Rattle.store_disk.specs.InMemory.{StandsInMemory}
 use Rattle.store_disk.specs.Loads.{OpensTo}
-use Rattle.store_disk.specs.OnDisk.{StoreTerm, on_pair}
+use Rattle.store_disk.specs.OnDisk.{CopyTerm, StoreTerm, on_pair}
 use Rattle.store_disk.specs.Payloads.{base_payload, history_of, payload}
 
 -- the failures of a disk, set anew
@@ -87,77 +87,100 @@ beside-still f second g finish copy (Copy carry) h =
       ),
     )
 
--- with the failures of disk `a` set anew a store stands for the same, where the count stays
-module _ (f : Medium → Failures) (same : (d : Medium) → (f d).count ≡ d.failures.count) (memory : Memory) (s : State)
-  where
-    abbrev of_pair : Paired Medium → StoreTerm Medium
-    of_pair pair = record { memory = memory; pair = pair }
+module _ (f : Medium → Failures) (same : (d : Medium) → (f d).count ≡ d.failures.count) where
+  -- with the failures of one disk set anew two disks stand for the same
+  current-still : (journal : Standing Medium) (other : Other Medium) (second : Bool) (t : PairState)
+      → PairStandsFor model (record { journal = journal; other = other; second = second }) t
+      → PairStandsFor model
+      (changed_at true (set f) (record { journal = journal; other = other; second = second })) t
+  current-still journal other second t p = record {
+    front = p.front;
+    is_front = p.is_front;
+    header = p.header;
+    journal = has-still journal (f journal.disk) p.front t.now.commits t.commit p.journal;
+    other = p.other;
+  }
 
-    still : (journal : Standing Medium) (other : Other Medium) (second : Bool)
+  other-still : (journal : Standing Medium) (other : Other Medium) (second : Bool) (t : PairState)
+      → PairStandsFor model (record { journal = journal; other = other; second = second }) t
+      → PairStandsFor model
+      (changed_at false (set f) (record { journal = journal; other = other; second = second })) t
+  other-still journal other second t p = record {
+    front = p.front;
+    is_front = p.is_front;
+    header = p.header;
+    journal = p.journal;
+    other = beside-still f second t.now.header.generation t.finish t.copy other p.other;
+  }
+
+  -- and a store for the same, where the count stays
+  module _ (memory : Memory) (copy : Option CopyTerm) (s : State) where
+    abbrev of_pair : Paired Medium → StoreTerm Medium
+    of_pair pair = record { memory = memory; pair = pair; copy = copy }
+
+    still : (current : Bool) (journal : Standing Medium) (other : Other Medium) (second : Bool)
         → StandsInMemory (of_pair (record { journal = journal; other = other; second = second })) s
         → StandsInMemory
-        (of_pair (changed First (set f) (record { journal = journal; other = other; second = second }))) s
-    still journal other false h = record {
+        (of_pair (changed_at current (set f) (record { journal = journal; other = other; second = second }))) s
+    still true journal other false h = record {
       memory = h.memory;
       header = h.header;
-      pair = λ l is m it.
-          let p = h.pair l is m it in
-          record {
-            front = p.front;
-            is_front = p.is_front;
-            header = p.header;
-            journal = has-still journal (f journal.disk) p.front (on_pair s).now.commits (on_pair s).commit p.journal;
-            other = p.other;
-          };
-      lacks = h.lacks;
+      pair = λ l is m it. current-still journal other false (on_pair s) (h.pair l is m it);
+      copy = h.copy;
+      copied = h.copied;
       counts = h.counts ∙ (λ i. record { a = sym (same journal.disk) i; b = model.faults (disk_of other) });
-      copy = h.copy;
     }
-    still journal (Idle disk doubtful) true h = record {
+    still true journal other true h = record {
       memory = h.memory;
       header = h.header;
-      pair = λ l is m it.
-          let p = h.pair l is m it in
-          record {
-            front = p.front;
-            is_front = p.is_front;
-            header = p.header;
-            journal = p.journal;
-            other = beside-still f true (on_pair s).now.header.generation (on_pair s).finish (on_pair s).copy
-                (Idle disk doubtful) p.other;
-          };
-      lacks = h.lacks;
+      pair = λ l is m it. current-still journal other true (on_pair s) (h.pair l is m it);
+      copy = h.copy;
+      copied = h.copied;
+      counts = h.counts ∙ (λ i. record { a = model.faults (disk_of other); b = sym (same journal.disk) i });
+    }
+    still false journal (Idle disk doubtful) false h = record {
+      memory = h.memory;
+      header = h.header;
+      pair = λ l is m it. other-still journal (Idle disk doubtful) false (on_pair s) (h.pair l is m it);
+      copy = h.copy;
+      copied = h.copied;
+      counts = h.counts ∙ (λ i. record { a = model.faults journal.disk; b = sym (same disk) i });
+    }
+    still false journal (Idle disk doubtful) true h = record {
+      memory = h.memory;
+      header = h.header;
+      pair = λ l is m it. other-still journal (Idle disk doubtful) true (on_pair s) (h.pair l is m it);
+      copy = h.copy;
+      copied = h.copied;
       counts = h.counts ∙ (λ i. record { a = sym (same disk) i; b = model.faults journal.disk });
-      copy = h.copy;
     }
-    still journal (Copy carry) true h = record {
+    still false journal (Copy carry) false h = record {
       memory = h.memory;
       header = h.header;
-      pair = λ l is m it.
-          let p = h.pair l is m it in
-          record {
-            front = p.front;
-            is_front = p.is_front;
-            header = p.header;
-            journal = p.journal;
-            other = beside-still f true (on_pair s).now.header.generation (on_pair s).finish (on_pair s).copy
-                (Copy carry) p.other;
-          };
-      lacks = h.lacks;
-      counts = h.counts ∙ (λ i. record { a = sym (same carry.disk) i; b = model.faults journal.disk });
+      pair = λ l is m it. other-still journal (Copy carry) false (on_pair s) (h.pair l is m it);
       copy = h.copy;
+      copied = h.copied;
+      counts = h.counts ∙ (λ i. record { a = model.faults journal.disk; b = sym (same carry.disk) i });
+    }
+    still false journal (Copy carry) true h = record {
+      memory = h.memory;
+      header = h.header;
+      pair = λ l is m it. other-still journal (Copy carry) true (on_pair s) (h.pair l is m it);
+      copy = h.copy;
+      copied = h.copied;
+      counts = h.counts ∙ (λ i. record { a = sym (same carry.disk) i; b = model.faults journal.disk });
     }
 
-pub once-set : (store : StoreTerm Medium) (call : Option ℕ) (s : State) → StandsInMemory store s
-    → StandsInMemory (record store { pair = changed First (set (λ d. record d.failures { once = call })) store.pair }) s
-once-set store call s h = still (λ d. record d.failures { once = call }) (λ d. refl) store.memory s store.pair.journal
-    store.pair.other store.pair.second h
+pub once-set : (disk : Which) (store : StoreTerm Medium) (call : Option ℕ) (s : State) → StandsInMemory store s
+    → StandsInMemory (record store { pair = changed disk (set (λ d. record d.failures { once = call })) store.pair }) s
+once-set disk store call s h = still (λ d. record d.failures { once = call }) (λ d. refl) store.memory store.copy s
+    (is_current disk store.pair.second) store.pair.journal store.pair.other store.pair.second h
 
-pub passes-set : (store : StoreTerm Medium) (calls : Option ℕ) (s : State) → StandsInMemory store s
+pub passes-set : (disk : Which) (store : StoreTerm Medium) (calls : Option ℕ) (s : State) → StandsInMemory store s
     → StandsInMemory
-    (record store { pair = changed First (set (λ d. record d.failures { passes = calls })) store.pair }) s
-passes-set store calls s h = still (λ d. record d.failures { passes = calls }) (λ d. refl) store.memory s
-    store.pair.journal store.pair.other store.pair.second h
+    (record store { pair = changed disk (set (λ d. record d.failures { passes = calls })) store.pair }) s
+passes-set disk store calls s h = still (λ d. record d.failures { passes = calls }) (λ d. refl) store.memory
+    store.copy s (is_current disk store.pair.second) store.pair.journal store.pair.other store.pair.second h
 
 -- no payloads are those of nothing
 none-mapped : {A : Type 0} (f : A → List ℕ) (xs : List A) → map f xs ≡ [] → xs ≡ []

@@ -1,14 +1,14 @@
 -- A call of the store in memory as one of the store on two disks: what a state has of disks stays.
-use Rattle.std.proofs.Common.{◌≡◌, ◌&&◌, ◌∙◌, ap, arith, cond, inl, inr, List, [], ◌∷◌, None, refl, subst, sym, true, ℕ}
+use Rattle.std.proofs.Common.{◌≡◌, ◌&&◌, ◌∙◌, ap, arith, cond, inl, inr, List, [], ◌∷◌, None, Option, refl, subst, sym, true, ℕ}
 use Rattle.disk_edge.specs.Disk.{DiskModel, Keeps}
 use Rattle.disk_pair.specs.Pairs.{MayShow as PairMayShow, PairOpensTo as PairMayOpen, State as PairState}
 use Rattle.disk_pair.specs.Stands.{StandsFor as StandsOnDisks}
-use Rattle.disk_pair.specs.Term.{OfEachPair, disk_a, disk_b}
+use Rattle.disk_pair.specs.Term.{OfEachPair, Paired, disk_a, disk_b, progress_of}
+use Rattle.store_core.specs.Beside.{StepBeside, repinned}
 use Rattle.store_core.specs.Calls.{Calls}
 use Rattle.store_core.specs.Stored as memory
-use Rattle.store_core.specs.Stored.{IsStore, Served, StoreTerm as Memory, alone, served}
+use Rattle.store_core.specs.Stored.{Served, StoreTerm as Memory, alone}
 use Rattle.store_machine.specs.Laws.{IsSound, RunsStaySound}
-use Rattle.store_machine.specs.History.{head}
 use Rattle.store_machine.specs.Machine.{Gives}
 use Rattle.store_machine.specs.Rebases.{RebasesKeepHeads}
 use Rattle.store_machine.specs.Runs.{is_call}
@@ -17,14 +17,10 @@ use Rattle.store_machine.specs.declared.machine.Reply.{Reply}
 use Rattle.store_machine.specs.declared.machine.State.{State}
 use Rattle.store_machine.specs.declared.machine.Step.{Step}
 use Rattle.store_machine.specs.declared.machine.Times.{Times}
-use Rattle.store_disk.specs.OnDisk.{IfBothTold, StandsFor, StoreTerm}
+use Rattle.store_disk.specs.OnDisk.{CopyTerm, Follow, IfBothTold, IsReady, StandsFor, StoreTerm}
 use Rattle.store_disk.specs.Stored.{CallsDisks, IsCaused, Shows, Stretches, keeps-itself, times}
 use Rattle.store_disk.proofs.OnDisks.{shown-after}
-use Rattle.store_disk.proofs.Steps.{all, one}
-
--- the state with the pins and kept entries of another
-abbrev pub back : State → State → State
-back s t = record s { pins = t.pins; kept = t.kept }
+use Rattle.store_disk.proofs.Steps.{all}
 
 -- of whichever owner
 abbrev pub step_of : ℕ → Event → Reply → State → State → Times → Times → Step
@@ -36,25 +32,29 @@ pub sound-after : RunsStaySound → (s t : State) (owner : ℕ) (e : Event) (r :
 sound-after law s t owner e r gives sound =
     law s t (step_of owner e r s t (record { a = 0; b = 0 }) (record { a = 0; b = 0 }) ∷ []) (refl, gives, refl) sound
 
--- A step as it is lifted from the part of a state that a store in memory knows.
-abbrev pub Lifts : State → Event → Reply → Type 0
-Lifts s e r = s.serves ≡ true → s.copy ≡ None → (owner : ℕ) (t : State) → Gives (alone (served s)) owner e r t
-    → Gives s owner e r (back s t) × (t.history ≡ s.history) × (t.limit ≡ s.limit)
-
--- what is in memory is at this part
+-- what is in memory is at this part, and serves it
 pub at-alone : (m : Memory) (s : Served) → memory.StandsFor m s → memory.IsAt m (alone s)
-at-alone m s h = record { sound = h.sound; serves = refl; copy = refl; finish = refl; stands = h }
+at-alone m s h =
+    record { sound = h.sound; serves = refl; copy = refl; finish = refl; generation = refl; stands = h }
 
--- a call that is lifted leaves a store of the same version
-pub still : (old new : Memory) (e : Event) (r : Reply) → ((s : State) → Lifts s e r)
-    → ((s : State) → memory.IsAt old s → Calls memory.Stretches all old new s ((e, r) ∷ [])) → IsStore old
-    → IsStore new × (new.version ≡ old.version)
-still old new e r lifts c was =
-    let s : State = alone was.0 in
-    let x = one old new s e r (c s (at-alone old was.0 was.1)) in (
-      (served x.after, x.ends.stands),
-      x.ends.stands.version ∙ (ap head (lifts s refl refl x.owner x.after x.gives).1 ∙ sym was.1.version),
-    )
+pub serving-alone : (m : Memory) (s : Served) → memory.StandsFor m s → memory.IsServing m (alone s)
+serving-alone m s h = record { sound = h.sound; serves = refl; stands = h }
+
+-- a call that changes no more than pins leaves a store that is ready
+pub still-ready : {D : Type 0} (old new : Memory) (pair : Paired D) (copy : Option CopyTerm) (e : Event) (r : Reply)
+    → ((s : State) → memory.IsServing old s → StepBeside new s e r) → IsReady old pair copy → IsReady new pair copy
+still-ready old new pair copy e r step was =
+    let s : State = was.stands.0 in
+    let x = step s was.stands.1 in
+    let same : new.version ≡ old.version =
+    x.serving.stands.version ∙ sym was.stands.1.stands.version in
+    record {
+      stands = (repinned s x.pins, x.serving, was.stands.2);
+      few = omega (arith, same, was.few);
+      bases = was.bases;
+      place = omega (arith, same, was.place);
+      copying = subst (λ n. Follow n copy (progress_of pair.other)) (sym same) was.copying;
+    }
 
 module _ {D : Type 0} (model : DiskModel D) where
   pub one-call : (old new : StoreTerm D) (s t : State) (owner : ℕ) (e : Event) (r : Reply) → is_call e ≡ true
@@ -110,24 +110,12 @@ module _ {D : Type 0} (model : DiskModel D) where
         (shown.0, shown.1, inl shown.2, shown.3))
 
     pub lifted : (m : Memory) (s : State) (e : Event) (r : Reply) → is_call e ≡ true → StandsFor model store s
-        → Lifts s e r → Calls memory.Stretches all store.memory m (alone (served s)) ((e, r) ∷ [])
-        → Calls (Stretches model) all store (record store { memory = m }) s ((e, r) ∷ [])
-    lifted m s e r call h lifts c =
-        let x = one store.memory m (alone (served s)) e r c in
-        let l = lifts h.memory.serves h.copy x.owner x.after x.gives in
-        let t : State = back s x.after in
-        let part : served x.after ≡ served t = λ i. record
-        { history = l.1 i; limit = l.2 i; pins = x.after.pins; kept = x.after.kept } in
-        still-call m s t x.owner e r call h l.0
-        (record {
-          memory = record {
-            sound = sound-after law s t x.owner e r l.0 h.memory.sound;
-            serves = h.memory.serves;
-            stands = subst (memory.StandsFor m) part x.ends.stands;
-          };
-          header = h.header;
-          pair = h.pair;
-          lacks = h.lacks;
-          counts = h.counts;
-          copy = h.copy;
-        })
+        → StepBeside m s e r → Calls (Stretches model) all store (record store { memory = m }) s ((e, r) ∷ [])
+    lifted m s e r call h x = still-call m s (repinned s x.pins) x.owner e r call h x.gives (record {
+      memory = x.serving;
+      header = h.header;
+      pair = h.pair;
+      copy = h.copy;
+      copied = h.copied;
+      counts = h.counts;
+    })

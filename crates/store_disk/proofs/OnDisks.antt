@@ -7,7 +7,7 @@ use Rattle.disk_pair.specs.Term.{OfEachPair, Paired, next_header}
 use Rattle.disk_edge.specs.Disk.{DiskModel}
 use Rattle.disk_pair.specs.Stands.{StandsFor as StandsOnDisks}
 use Rattle.disk_pair.specs.Pairs.{History as Written, MayShow, PairOpens, PairOpensTo as MayOpen, State as PairState, with_base, with_commit}
-use Rattle.store_core.specs.Stored.{StoreTerm as Memory}
+use Rattle.store_core.specs.Stored.{IsServing, StoreTerm as Memory}
 use Rattle.store_machine.specs.History.{IsHistory, grown, head, rebase}
 use Rattle.store_machine.specs.Kept.{IsPast}
 use Rattle.store_machine.specs.Laws.{IsSound, RunsStaySound}
@@ -20,7 +20,7 @@ use Rattle.store_machine.specs.declared.machine.Copying.{Copying}
 use Rattle.store_machine.specs.declared.machine.History.{History}
 use Rattle.store_machine.specs.declared.machine.State.{State}
 use Rattle.store_disk.specs.Loads.{OpensAfter, OpensTo}
-use Rattle.store_disk.specs.OnDisk.{IsServing, StandsFor, copy_so_far, lacking, on_pair, whole_copy}
+use Rattle.store_disk.specs.OnDisk.{CopyTerm, StandsFor, copy_so_far, lacking, on_pair, whole_copy}
 use Rattle.store_disk.specs.Payloads.{base_payload, history_of, payload, payloads}
 
 none-some : {X : Type 0} {x : X} → None ≡ Some x → ⊥
@@ -201,7 +201,7 @@ recovered-few heads memory s h g (inr (inr (version, may, is, at))) m =
     omega (arith, same, m.stands.version, m.stands.within)
 
 -- what may be recovered of a state that is served is what bytes open to
-opens-recovered : RunsStaySound → RebasesKeepHeads → (memory : Memory) (s : State) → IsServing memory s
+pub opens-recovered : RunsStaySound → RebasesKeepHeads → (memory : Memory) (s : State) → IsServing memory s
     → (h : History) (g : ℕ) → Recovers s h g → (x y : List ℕ) → PairOpens (history_of g h) x y → OpensTo h g x y
 opens-recovered law heads memory s serving h g r x y opens = record {
   history = recovered-history law s h g r serving.sound;
@@ -251,7 +251,7 @@ shown-with law heads memory s serving c may x y opens =
 
 pub standing-opens : RunsStaySound → RebasesKeepHeads → {D : Type 0} (model : DiskModel D) (pair : Paired D)
     → ((t : PairState) → StandsOnDisks model pair t → OfEachPair model pair (MayOpen (MayShow t)))
-    → (memory : Memory) (s : State) → StandsFor model (record { memory = memory; pair = pair }) s
-    → OfEachPair model pair (OpensAfter s)
-standing-opens law heads model pair leaves memory s stands = λ l is m it x y i j.
+    → (memory : Memory) (copy : Option CopyTerm) (s : State)
+    → StandsFor model (record { memory = memory; pair = pair; copy = copy }) s → OfEachPair model pair (OpensAfter s)
+standing-opens law heads model pair leaves memory copy s stands = λ l is m it x y i j.
     shown-after law heads memory s stands.memory x y (leaves (on_pair s) (stands.pair l is m it) l is m it x y i j)

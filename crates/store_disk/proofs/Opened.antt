@@ -1,27 +1,15 @@
 -- A state as an opening leaves it.
-use Rattle.std.proofs.Common.{◌≡◌, ◌↔◌, ◌++◌, ap, arith, Contains, Err, List, [], ◌∷◌, map, None, Ok, Option, refl, Result, subst, sym, true, ℕ, ◌∙◌}
-use Rattle.store_core.specs.Calls.{Calls, NeedsNone, is_worn}
-use Rattle.store_core.specs.Replies.{prune_calls}
+use Rattle.std.proofs.Common.{◌≡◌, ◌↔◌, ◌++◌, ap, arith, Contains, IfSome, [], ◌∷◌, map, None, Option, option_map, refl, subst, sym, true, ℕ}
+use Rattle.store_core.specs.Copied.{KeepsCopy, KeepsVersion, Prunes}
 use Rattle.store_core.specs.Stored as memory
 use Rattle.store_core.specs.Stored.{StoreTerm as Memory, served}
-use Rattle.store_core.specs.declared.words.CallFault.{CallFault}
-use Rattle.store_core.specs.declared.words.CallFault.TheVariants as call
 use Rattle.store_machine.specs.History.{head}
 use Rattle.store_machine.specs.Kept.{IsNeeded, copied}
 use Rattle.store_machine.specs.Machine.{AreNeeded}
 use Rattle.store_machine.specs.Openings.{IsOpened}
 use Rattle.store_machine.specs.declared.machine.Copying.{Copying}
-use Rattle.store_machine.specs.declared.machine.Entry.{Entry}
-use Rattle.store_machine.specs.declared.machine.Event.TheVariants as event
 use Rattle.store_machine.specs.declared.machine.Faults.{Faults}
-use Rattle.store_machine.specs.declared.machine.Reply.TheVariants as reply
 use Rattle.store_machine.specs.declared.machine.State.{State}
-use Rattle.store_disk.proofs.Steps.{all, one}
-
-still-needed : (s t : State) (kept : List Entry) → t ≡ record s { kept = t.kept; faults = t.faults } → AreNeeded s kept
-    → AreNeeded t kept
-still-needed s t kept is n =
-    subst (λ (x : State). AreNeeded x kept) (sym is) (record { exactly = n.exactly; distinct = n.distinct })
 
 -- a state as an opening leaves it, of what another has in memory
 abbrev pub rested : State → ℕ → ℕ → Faults → State
@@ -50,34 +38,31 @@ needed-rested s commits generation faults none n = record {
 }
 
 -- what a prune leaves of a store that has no pins, with its limit
-pub opened-after : (old new : Memory) (s : State) (commits : ℕ) (r : Result ℕ CallFault) → NeedsNone r
-    → (is_worn r ≡ true → ⊥) → s.pins ≡ [] → s.doubt ≡ None → Calls memory.Stretches all old new s (prune_calls r)
-    → (t : State) × memory.IsAt new t × (t.history ≡ s.history) × IsOpened commits (rested t commits 0 t.faults)
-opened-after old new s commits (Err call.Worn) none worn pins doubt c = absurd (worn refl)
-opened-after old new s commits (Err call.NoMemory) none worn pins doubt c = absurd none
-opened-after old new s commits (Ok n) none worn pins doubt c =
-    let x = one old new s event.Prune (reply.Pruned n) c in
-    let t : State = x.after in
-    let needed : AreNeeded t t.kept = still-needed s t t.kept x.gives.1.2 x.gives.1.0 in (
-      t,
-      x.ends,
-      ap (λ (y : State). y.history) x.gives.1.2,
-      record {
-        serves = refl;
-        limit = refl;
-        pins = ap (λ (y : State). y.pins) x.gives.1.2 ∙ pins;
-        base = refl;
-        copy = refl;
-        doubt = refl;
-        finish = refl;
-        kept = needed-rested t commits 0 t.faults x.ends.copy needed;
-      },
-    )
+pub opened-after : (new : Memory) (s : State) (commits n : ℕ) → s.copy ≡ None → s.pins ≡ [] → (p : Prunes new s n)
+    → IsOpened commits (rested (record s { kept = p.left }) commits 0 s.faults)
+opened-after new s commits n none pins p = record {
+  serves = refl;
+  limit = refl;
+  pins = pins;
+  base = refl;
+  copy = refl;
+  doubt = refl;
+  finish = refl;
+  kept = needed-rested (record s { kept = p.left }) commits 0 s.faults none
+      (record { exactly = p.gives.0.exactly; distinct = p.gives.0.distinct });
+}
 
--- what is in memory is at that state
+-- no copy keeps a version
+pub keeps-none : (s : State) → s.copy ≡ None → KeepsCopy None s
+keeps-none s none = (
+  sym (ap (λ (o : Option Copying). option_map (λ copy. copy.version) o) none),
+  subst (λ (o : Option Copying). IfSome o (λ copy. KeepsVersion s copy.version)) (sym none) tt,
+)
+
+-- what is in memory serves that state
 pub at-rest : (m : Memory) (s : State) (commits generation : ℕ) (faults : Faults)
     → memory.StandsFor m (served (rested s commits generation faults))
-    → memory.IsAt m (rested s commits generation faults)
+    → memory.IsServing m (rested s commits generation faults)
 at-rest m s commits generation faults h = record {
   sound = record {
     history = h.sound.history;
@@ -89,7 +74,5 @@ at-rest m s commits generation faults h = record {
     made = λ _. h.sound.made refl;
   };
   serves = refl;
-  copy = refl;
-  finish = refl;
   stands = h;
 }

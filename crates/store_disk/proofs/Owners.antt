@@ -1,11 +1,12 @@
 -- Whose the pins are makes no difference to what a store stands for.
-use Rattle.std.proofs.Common.{◌≡◌, ◌∙◌, ap, MatchOption, subst, sym}
+use Rattle.std.proofs.Common.{◌≡◌, ◌∙◌, ap, subst, sym}
 use Rattle.disk_edge.specs.Disk.{DiskModel}
 use Rattle.disk_pair.specs.Stands.{StandsFor as StandsOnDisks}
+use Rattle.disk_pair.specs.Term.{progress_of}
 use Rattle.store_core.specs.Stored.{AsksNoOwner}
 use Rattle.store_machine.specs.Owners.{SameButOwners, SoundnessAsksNoOwner}
 use Rattle.store_machine.specs.declared.machine.State.{State}
-use Rattle.store_disk.specs.OnDisk.{IfBothTold, LacksNoMore, StandsFor, StoreTerm, on_pair}
+use Rattle.store_disk.specs.OnDisk.{HasCopy, HasHeader, IfBothTold, StandsFor, StoreTerm, on_pair}
 
 pub asks-no-owner : {D : Type 0} (model : DiskModel D) → AsksNoOwner → SoundnessAsksNoOwner
     → (store : StoreTerm D) (s t : State) → SameButOwners s t → StandsFor model store s → StandsFor model store t
@@ -18,7 +19,8 @@ asks-no-owner model memory sound store s t same h = record {
   header = subst (λ (x : State). store.pair.journal.header ≡ (on_pair x).now.header) (sym same.rest) h.header;
   pair = subst (λ (x : State). IfBothTold model store.pair (StandsOnDisks model store.pair (on_pair x)))
       (sym same.rest) h.pair;
-  lacks = subst (λ (x : State). MatchOption x.copy (Unit {0}) (LacksNoMore x)) (sym same.rest) h.lacks;
+  copy = subst (λ (x : State). HasCopy x.history x.copy store.copy) (sym same.rest) h.copy;
+  copied = subst (λ (x : State). HasHeader x.generation x.history store.copy (progress_of store.pair.other))
+      (sym same.rest) h.copied;
   counts = ap (λ (x : State). x.faults) same.rest ∙ h.counts;
-  copy = ap (λ (x : State). x.copy) same.rest ∙ h.copy;
 }

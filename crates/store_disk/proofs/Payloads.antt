@@ -43,6 +43,11 @@ valid-short (Revise id format text) v = omega (
 )
 valid-short (Withdraw id) v = omega arith
 
+pub some-payload : (c : Change) → 1 ≤ length (payload c)
+some-payload (Register id format text) = omega arith
+some-payload (Revise id format text) = omega arith
+some-payload (Withdraw id) = omega arith
+
 -- a change of a log, told and logged again
 same-format : (f : LoggedFormat) → logged_format (stored_format f) ≡ f
 same-format logged.Smiles = refl

@@ -8,7 +8,7 @@ use Rattle.commit_log.specs.Entry.{Entry}
 use Rattle.commit_log.specs.Log.{IsLogged, changes_of}
 use Rattle.commit_log.specs.declared.change.Commit.{Commit}
 use Rattle.store_core.specs.Based.{based}
-use Rattle.store_core.specs.Stored.{IsAt, Served, StandsFor, StoreTerm as Memory, alone, served}
+use Rattle.store_core.specs.Stored.{IsServing, Served, StandsFor, StoreTerm as Memory, alone, served}
 use Rattle.store_machine.specs.History.{IsHistory, grown, head}
 use Rattle.store_machine.specs.Machine.{MayAdd, committed}
 use Rattle.store_machine.specs.Openings.{IsOpened}
@@ -19,7 +19,7 @@ use Rattle.store_disk.specs.Loads.{MayFollow}
 use Rattle.store_disk.specs.Payloads.{told, told_entry, told_history}
 use Rattle.store_disk.specs.Replays.{HasBased, IsReplayed, Stops}
 use Rattle.store_disk.proofs.Based.{next-is, split-is}
-use Rattle.store_disk.proofs.Lifts.{at-alone}
+use Rattle.store_disk.proofs.Lifts.{serving-alone}
 
 -- the store stands for a part of this history, with the greatest limit and nothing pinned
 pub record Made (memory : Memory) (version : ℕ) (entries : List Entry) (changes : List Logged) : Type 0 where
@@ -97,14 +97,14 @@ module _ (version : ℕ) (entries : List Entry) where
   -- all of a log, made and opened
   pub replayed : (memory result : Memory) (commits : ℕ) (log : List Commit) (i : ℕ) → length log ≤ i
       → Makes memory (changes_of (take i log))
-      → ((s : State) → IsAt memory s → s.pins ≡ [] → s.doubt ≡ None
-      → (t : State) × IsAt result t × (t.history ≡ s.history) × IsOpened commits t)
+      → ((s : State) → IsServing memory s → s.copy ≡ None → s.pins ≡ []
+      → (t : State) × IsServing result t × (t.history ≡ s.history) × IsOpened commits t)
       → IsReplayed result commits version entries (changes_of log)
   replayed memory result commits log i all m opened =
-      let o = opened (alone m.part) (at-alone memory m.part m.stands) m.pins refl in
+      let o = opened (alone m.part) (serving-alone memory m.part m.stands) refl m.pins in
       record {
         state = o.0;
-        at = o.1;
+        serving = o.1;
         history = o.2 ∙ m.history ∙ ap (λ l. told_history version entries (changes_of l)) (take_all i log all);
         opened = o.3;
       }

@@ -89,7 +89,7 @@ module _ {D : Type 0} (model : DiskModel D) (stays : RebasesStay) (a b : D) (sec
 
   -- the disk's history is all of it
   whole : on_disk state ≡ x.state.history
-  whole = stays x.state.history x.at.sound.history
+  whole = stays x.state.history x.serving.sound.history
 
   on-disks : IfTold (model.content old.disk) (λ _. IfTold (model.content other)
       (λ _. StandsOnDisks model pair (on_pair state)))
@@ -118,20 +118,20 @@ module _ {D : Type 0} (model : DiskModel D) (stays : RebasesStay) (a b : D) (sec
       go false holds l is m it = holds l (sym looks.narrows.same ∙ is) m it
       go true holds l is m it = holds m (sym looks.narrows.same ∙ it) l is
 
-  pub opened-store : (s : State) × StandsFor model (record { memory = memory; pair = pair }) s
+  pub opened-store : (s : State) × StandsFor model (record { memory = memory; pair = pair; copy = None }) s
       × IsOpened limit s × IfTold (model.content a)
       (λ x. IfTold (model.content b) (λ y. OpensTo s.history s.generation x y))
   opened-store =
       let t : State = x.state in
-      let at = at-rest memory t t.limit old.header.generation state.faults x.at.stands in (
+      let at = at-rest memory t t.limit old.header.generation state.faults x.serving.stands in (
         state,
         record {
-          memory = record { sound = at.sound; serves = refl; stands = at.stands };
+          memory = at;
           header = kept ∙ (x.header ∙ ap (λ (h : History). (history_of old.header.generation h).header) (sym whole));
           pair = told-current;
-          lacks = tt;
-          counts = refl;
           copy = refl;
+          copied = tt;
+          counts = refl;
         },
         record {
           serves = refl;
@@ -146,8 +146,8 @@ module _ {D : Type 0} (model : DiskModel D) (stays : RebasesStay) (a b : D) (sec
         λ l is m it. told-both model a b second old.disk other narrows_a narrows_b
             (λ l m. IsRead second l m → OpensTo t.history old.header.generation l m)
             (λ l m one two read. record {
-              history = x.at.sound.history;
-              few = omega (arith, x.at.stands.version, x.at.stands.within);
+              history = x.serving.sound.history;
+              few = omega (arith, x.serving.stands.version, x.serving.stands.within);
               opens = record {
                 read = first_of second l m;
                 picks = picks-by second l m read;

@@ -1,6 +1,8 @@
+pub mod Copies
 pub mod Faults
 pub mod OnDisk
 pub mod InMemory
+pub mod Items
 pub mod Loads
 pub mod Payloads
 pub mod Replays

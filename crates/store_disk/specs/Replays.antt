@@ -13,7 +13,7 @@ use Rattle.journal_core.specs.Fronts.{BeginsAt, IsFront, IsHeader, IsPart, IsPee
 use Rattle.journal_core.specs.Journal.{Reads, Rests}
 use Rattle.journal_core.specs.Standing.{Standing}
 use Rattle.store_core.specs.Based.{based}
-use Rattle.store_core.specs.Stored.{IsAt, StandsFor as InMemory, StoreTerm as Memory}
+use Rattle.store_core.specs.Stored.{IsServing, StandsFor as InMemory, StoreTerm as Memory}
 use Rattle.store_machine.specs.History.{HasText, IsHistory, head}
 use Rattle.store_machine.specs.Openings.{IsOpened}
 use Rattle.store_machine.specs.declared.machine.History.{History}
@@ -48,7 +48,7 @@ pub record LacksText (found : List (ℕ × BaseEntry)) (at : ℕ) : Type 0 where
 pub record IsReplayed (memory : Memory) (commits version : ℕ) (entries : List Entry) (changes : List Logged) : Type 0
   where
     pub state : State
-    pub at : IsAt memory state
+    pub serving : IsServing memory state
     pub history : state.history ≡ told_history version entries changes
     pub opened : IsOpened commits state
 
@@ -75,7 +75,7 @@ pub record RestsAs {D : Type 0} (model : DiskModel D) (journal : Standing D) (ge
 pub record IsLoaded {D : Type 0} (model : DiskModel D) (memory : Memory) (commits : ℕ) (old new : Standing D)
     : Type 0 where
   pub state : State
-  pub at : IsAt memory state
+  pub serving : IsServing memory state
   pub opened : IsOpened commits state
   pub header : old.header ≡ (history_of old.header.generation state.history).header
   pub opens : IfTold (model.content old.disk) (OpensAs (history_of old.header.generation state.history))

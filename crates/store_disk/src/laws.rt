@@ -9,6 +9,8 @@ ghost use Rattle.disk_pair.specs.Term.{OfEachPair, next_header};
 ghost use Rattle.journal_core.specs.Fronts.{IsFront, IsOpen};
 ghost use Rattle.journal_core.specs.Records.{prefix};
 ghost use Rattle.journal_core.specs.declared.format.TheConstants.{CLOSED};
+ghost use Rattle.store_core.specs.Beside.{CallsServe};
+ghost use Rattle.store_core.specs.Copied.{KeepsCopied};
 ghost use Rattle.store_machine.specs.History.{IsHistory, head};
 ghost use Rattle.store_machine.specs.Laws.{IsSound, RunsStaySound};
 ghost use Rattle.store_machine.specs.Machine.{Recovers, committed, copying, now, replaced};
@@ -25,6 +27,7 @@ use crate::store::Store;
 use commit_log::{a_base_reads_one_way, a_log_reads_one_way};
 use disk_edge::Disk;
 use disk_pair::{Pair, a_crash_leaves_one, a_pair_opens_one_way};
+use store_core::{calls_serve_any_disks, versions_in_use_are_kept};
 use store_machine::{rebases_keep, runs_stay_sound};
 
 /// Two disks open to one history, in one generation, or are damaged at one place, or neither is open, and never two of
@@ -125,12 +128,16 @@ pub fn stores_ask_no_owner<D: Disk>()
 
 /// They take no time.
 pub(crate) fn laws<D: Disk>(pair: &Pair<D>)
+    ensures serve { CallsServe }
+    ensures keep { KeepsCopied }
     ensures sound { RunsStaySound }
     ensures heads { RebasesKeepHeads }
     ensures grown { RebasesGrow }
     ensures leaves { (s : PairState) → PairStandsFor D.model pair.now s
         → OfEachPair D.model pair.now (PairOpensTo (MayShow s)) }
 {
+    calls_serve_any_disks();
+    versions_in_use_are_kept();
     rebases_keep();
     runs_stay_sound();
     a_crash_leaves_one(pair);

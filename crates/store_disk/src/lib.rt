@@ -4,9 +4,15 @@
 //! `Store::load` reads one of two disks, and `Store` is then a `Service`: each call is a step of the machine. At each
 //! state the disks have the history, and the commit in doubt, if any. So a crash leaves every commit that was
 //! acknowledged, and at most one more: the one in doubt, or the one that is being made.
+//!
+//! `compact` copies the store, some items at a time, to the disk that is not read: the states at the version at which it
+//! began, and then the commits made since. A copy that lacks nothing takes the place of the disk that is read.
 #![tactic(auto)]
 
+mod compact;
+mod copy;
 mod disks;
+mod item;
 mod laws;
 mod payload;
 mod replay;

@@ -8,7 +8,7 @@ ghost use Rattle.commit_log.specs.Entry.{entry_of};
 ghost use Rattle.commit_log.specs.Log.{IsLogged, changes_of};
 ghost use Rattle.journal_core.specs.Answers.{OnDamaged};
 ghost use Rattle.store_core.specs.Based.{IsBefore, IsGiven};
-ghost use Rattle.store_core.specs.Stored.{IsAt, StandsFor, served};
+ghost use Rattle.store_core.specs.Stored.{IsServing, StandsFor, served};
 ghost use Rattle.store_machine.specs.History.{HasText, IsId};
 ghost use Rattle.store_machine.specs.Machine.{MayAdd, committed};
 ghost use Rattle.store_machine.specs.Openings.{IsOpened};
@@ -21,7 +21,7 @@ use commit_log::{BaseEntry, Commit};
 use journal_core::LoadFault;
 use mol_finish::TextFault;
 use std::alloc::Global;
-use store_core::{CommitFault, MOST_COMMITS, Recorder, Service, Store as Memory};
+use store_core::{CommitFault, MOST_COMMITS, Recorder, Store as Memory};
 
 /// The store in memory after the commits of a log behind a base. It keeps what the head reads.
 pub(crate) fn replay(
@@ -134,11 +134,11 @@ fn add(recorder: &mut Recorder, memory: &mut Memory, commit: &Commit) -> Result<
 // Drops what the head does not read, and takes so many commits in all from now on.
 fn opened(memory: Memory, commits: u32) -> Memory
     requires { commits ≤ MOST_COMMITS }
-    ensures { (s : State) → IsAt memory s → s.pins ≡ [] → s.doubt ≡ None → (t : State) × IsAt result t
+    ensures { (s : State) → IsServing memory s → s.copy ≡ None → s.pins ≡ [] → (t : State) × IsServing result t
         × (t.history ≡ s.history) × IsOpened commits t }
 {
     let mut memory = memory;
-    let _ = memory.prune();
+    let _ = memory.prune_but(None);
     memory.limit_to(commits);
     memory
 }

@@ -1,6 +1,6 @@
 //! A store on two disks. For a commit the memory is taken first; then it is put into the journal of the disk that is
-//! read, and only where that takes it, made in memory. No other call touches a disk (`Stretches`, fields `causes` and
-//! `untouched`).
+//! read, and only where that takes it, made in memory, and queued for the copy, where one runs. Of the other calls only
+//! `compact` touches a disk (`Stretches`, fields `causes` and `untouched`).
 
 ghost use Rattle.std.specs.Prelude.{◌≡◌, ◌≤◌, ◌+◌, ◌*◌, ◌⊎◌, [], All, false, IfErr, IfOk, IsErrOf, length, OnErr, OnOk, Some, true, ℕ};
 ghost use Rattle.std.specs.Arc.{arc_value};
@@ -8,7 +8,7 @@ ghost use Rattle.disk_edge.specs.Disk.{Faulted, IfTold, Rose};
 ghost use Rattle.disk_edge.specs.Failures.{bound_of};
 ghost use Rattle.disk_pair.specs.Changed.{changed};
 ghost use Rattle.disk_pair.specs.Term.{disk_a, disk_b, first_of};
-ghost use Rattle.disk_pair.specs.declared.choice.Which.TheVariants.{First};
+ghost use Rattle.disk_pair.specs.declared.choice.Which.TheVariants.{First, Second};
 ghost use Rattle.journal_core.specs.Answers.{OnDamaged};
 ghost use Rattle.journal_core.specs.Fronts.{IsOpen};
 ghost use Rattle.journal_core.specs.Looks.{Looks, Narrows};
@@ -29,6 +29,7 @@ ghost use Rattle.store_disk.specs.Faults.{commit_fault};
 ghost use Rattle.store_disk.specs.Replays.{IsLoaded, IsOpening};
 ghost use Rattle.store_disk.specs.Stored.{Stretches};
 
+use crate::copy::{Copying, queue, reserve};
 use crate::disks::Disks;
 use crate::laws::laws;
 use crate::payload::payload_of;
@@ -43,8 +44,8 @@ use std::alloc::{AllocError, Global};
 use std::marker::Model;
 use std::sync::ledger::Ledger;
 use store_core::{
-    CallFault, Change, CommitFault, Look, MOST_COMMITS, Page, Service, Stats, Steps,
-    Store as Memory,
+    CallFault, Change, CommitFault, Compact, CompactFault, Look, MOST_COMMITS, Page, Service,
+    Stats, Steps, Store as Memory,
 };
 use store_machine::rebases_keep;
 
@@ -55,19 +56,22 @@ const VERSION_PLACE: u64 = 12;
 /// serves on. With `doubt: true` a load may still find that commit, until a later commit ends the doubt.
 #[derive(Drop)]
 pub struct Store<D: Disk> {
-    alloc: Global,
-    memory: Memory,
+    pub(crate) alloc: Global,
+    pub(crate) memory: Memory,
     pub(crate) pair: Pair<D>,
+    pub(crate) copy: Option<Copying>,
 }
 
 impl<D: Disk> Model for Store<D> {
+    ghost use Rattle.std.specs.Prelude.{option_map};
+    ghost use Rattle.store_disk.specs.Copies.{copy_of};
     ghost use Rattle.store_disk.specs.OnDisk.{IsReady, StoreTerm};
 
     ghost Value = { StoreTerm D };
 
-    ghost view = { λ s. record { memory = s.memory; pair = s.pair } };
+    ghost view = { λ s. record { memory = s.memory; pair = s.pair; copy = option_map copy_of s.copy } };
 
-    ghost invariant = { λ s. IsReady s.memory s.pair };
+    ghost invariant = { λ s. IsReady s.memory s.pair (option_map copy_of s.copy) };
 }
 
 impl<D: Disk + Drop> Store<D> {
@@ -130,6 +134,7 @@ impl<D: Disk + Drop> Store<D> {
                         second,
                     },
                 ),
+                copy: None,
             }),
             Err(fault) => Err((fault, disks_of(journal.into_disk(), other, second))),
         }
@@ -199,6 +204,30 @@ impl Store<MemDisk> {
     {
         self.pair.fail_once(Which::First, call);
     }
+
+    /// `calls` calls of disk `b` pass, and then each fails. Takes no memory.
+    pub fn stop_after_b(&mut self, calls: u64)
+        ensures stands { (s : State) → StandsInMemory self.old s → StandsInMemory self.new s }
+        ensures only { self.new ≡ record self.old {
+          pair = changed Second (λ d. record d {
+            failures = record d.failures { passes = Some calls };
+          }) self.old.pair;
+        } }
+    {
+        self.pair.stop_after(Which::Second, calls);
+    }
+
+    /// The call of disk `b` of this number from now, counted from 1, fails. Takes no memory.
+    pub fn fail_once_b(&mut self, call: u64)
+        ensures stands { (s : State) → StandsInMemory self.old s → StandsInMemory self.new s }
+        ensures only { self.new ≡ record self.old {
+          pair = changed Second (λ d. record d {
+            failures = record d.failures { once = Some call };
+          }) self.old.pair;
+        } }
+    {
+        self.pair.fail_once(Which::Second, call);
+    }
 }
 
 impl<D: Disk + Drop> Service for Store<D> {
@@ -220,12 +249,14 @@ impl<D: Disk + Drop> Service for Store<D> {
     fn commit(&mut self, change: Change) -> Result<u32, CommitFault> {
         laws(&self.pair);
         let payload = payload_of(self.alloc, &change)?;
+        reserve(&mut self.copy)?;
         self.memory.prepare(&change)?;
         match self.pair.append(&payload) {
             Ok(()) => {}
             Err(fault) => return Err(commit_fault(fault)),
         }
         self.memory.make(change);
+        queue(&mut self.copy, payload);
         Ok(self.memory.version())
     }
 
@@ -273,7 +304,8 @@ impl<D: Disk + Drop> Service for Store<D> {
 
     fn prune(&mut self) -> Result<u32, CallFault> {
         laws(&self.pair);
-        self.memory.prune()
+        let copied = self.copied();
+        Ok(self.memory.prune_but(copied))
     }
 
     fn look(&mut self, id: u32) -> Result<Look, CallFault> {
@@ -284,6 +316,15 @@ impl<D: Disk + Drop> Service for Store<D> {
     fn stats(&mut self) -> Result<Stats, CallFault> {
         laws(&self.pair);
         self.memory.stats()
+    }
+
+    fn compact(&mut self) -> Result<Compact, CompactFault> {
+        laws(&self.pair);
+        match self.left() {
+            None => self.start(),
+            Some(0) => self.finish(),
+            Some(items) => self.go_on(items),
+        }
     }
 
     ghost stays = { stays D.model };

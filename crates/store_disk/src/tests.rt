@@ -7,7 +7,7 @@ use journal_core::LoadFault;
 use mol_finish::Format;
 use std::alloc::Global;
 use std::test::Fail;
-use store_core::{Change, CommitFault, Record, Service};
+use store_core::{Change, CommitFault, Compact, CompactFault, Record, Service};
 
 // Registers a SMILES under an identifier.
 fn register(
@@ -245,5 +245,92 @@ fn a_failed_call_leaves_a_store_that_commits(rt: HostRuntime) -> Result<(), Fail
         assert_eq!(rt; disk.bytes(), file.as_slice(), "{call}");
         assert_eq!(rt; commits(alloc, disk), Ok(1), "{call}");
     }
+    Ok(())
+}
+
+// What disk `b` has after a copy of a store with one structure: format 2, generation 1, version 1, one base record.
+const ONE: [u8; 38] = *b"ZCHEMDB2\x01\0\0\0\x01\0\0\0\x01\0\0\0\
+    \x0d\0\0\0\x04\x01\0\0\0\x01\0\0\0\x01CCO\0";
+
+#[test]
+fn three_steps_copy_one_structure(rt: HostRuntime) -> Result<(), Fail> {
+    let alloc = rt.alloc();
+    let mut store = Store::fresh(alloc, 10)?;
+    assert_eq!(rt; register(alloc, &mut store, 1, b"CCO"), Ok(1));
+    assert_eq!(rt; store.compact(), Ok(Compact::More { left: 1 }));
+    assert_eq!(rt; store.compact(), Ok(Compact::More { left: 0 }));
+    assert_eq!(rt; store.compact(), Ok(Compact::Done { generation: 1 }));
+    let disks = store.into_disks();
+    assert_eq!(rt; disks.b.bytes(), ONE.as_slice());
+    assert_eq!(rt; version(alloc, disks), Ok(1));
+    Ok(())
+}
+
+#[test]
+fn commits_between_steps_are_copied(rt: HostRuntime) -> Result<(), Fail> {
+    let alloc = rt.alloc();
+    let mut store = Store::fresh(alloc, 10)?;
+    assert_eq!(rt; register(alloc, &mut store, 1, b"CCO"), Ok(1));
+    assert_eq!(rt; store.compact(), Ok(Compact::More { left: 1 }));
+    assert_eq!(rt; register(alloc, &mut store, 2, b"C"), Ok(2));
+    assert_eq!(rt; store.commit(Change::Withdraw(1)), Ok(3));
+    let Ok(_) = store.prune() else {
+        return Err(Fail::new("not pruned"));
+    };
+    assert_eq!(rt; store.compact(), Ok(Compact::More { left: 0 }));
+    assert_eq!(rt; register(alloc, &mut store, 3, b"N"), Ok(4));
+    assert_eq!(rt; store.compact(), Ok(Compact::More { left: 0 }));
+    assert_eq!(rt; store.compact(), Ok(Compact::Done { generation: 1 }));
+    assert_eq!(rt; store.version(), 4);
+    let disks = store.into_disks();
+    assert_eq!(rt; disks.b.bytes().len(), 37 + 12 + 10 + 12 + 1);
+    assert_eq!(rt; version(alloc, disks), Ok(4));
+    Ok(())
+}
+
+#[test]
+fn a_copy_that_fails_is_given_up(rt: HostRuntime) -> Result<(), Fail> {
+    let alloc = rt.alloc();
+    let full = Disks {
+        a: MemDisk::of(alloc, EMPTY.to_vec(alloc)?)?,
+        b: MemDisk::of(alloc, COMPACTED.to_vec(alloc)?)?,
+    };
+    let Ok(store) = Store::load(alloc, full, 9) else {
+        return Err(Fail::new("not loaded"));
+    };
+    let mut store = store;
+    let fault = Err(CompactFault::DiskFault { doubt: false });
+    store.fail_once(1);
+    assert_eq!(rt; store.compact(), fault);
+    assert_eq!(rt; store.compact(), Ok(Compact::More { left: 2 }));
+    store.fail_once(1);
+    assert_eq!(rt; store.compact(), fault);
+    assert_eq!(rt; store.compact(), Ok(Compact::More { left: 2 }));
+    assert_eq!(rt; store.compact(), Ok(Compact::More { left: 0 }));
+    store.fail_once(4);
+    assert_eq!(rt;
+        store.compact(),
+        Err(CompactFault::DiskFault { doubt: true })
+    );
+    assert_eq!(rt; store.compact(), Ok(Compact::More { left: 2 }));
+    assert_eq!(rt; store.compact(), Ok(Compact::More { left: 0 }));
+    assert_eq!(rt; store.compact(), Ok(Compact::Done { generation: 2 }));
+    let disks = store.into_disks();
+    assert_eq!(rt; disks.a.bytes().get(8), Some(&2));
+    assert_eq!(rt; version(alloc, disks), Ok(4));
+    Ok(())
+}
+
+#[test]
+fn no_copy_starts_in_the_last_generation(rt: HostRuntime) -> Result<(), Fail> {
+    let alloc = rt.alloc();
+    let last = b"ZCHEMDB2\xff\xff\xff\xff\x05\0\0\0\0\0\0\0\0";
+    let a = MemDisk::of(alloc, EMPTY.to_vec(alloc)?)?;
+    let b = MemDisk::of(alloc, last.to_vec(alloc)?)?;
+    let Ok(store) = Store::load(alloc, Disks { a, b }, 9) else {
+        return Err(Fail::new("not loaded"));
+    };
+    let mut store = store;
+    assert_eq!(rt; store.compact(), Err(CompactFault::Last));
     Ok(())
 }

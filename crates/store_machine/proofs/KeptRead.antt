@@ -1,5 +1,5 @@
 -- What is kept of an identifier, read at a version in use, is its state there.
-use Rattle.std.proofs.Common.{◌≡◌, ◌<◌, ◌≤◌, ◌∙◌, ap, arith, Contains, MatchOption, None, Option, refl, Some, sym, true, ℕ}
+use Rattle.std.proofs.Common.{◌≡◌, ◌<◌, ◌≤◌, ◌∙◌, arith, Contains, MatchOption, None, Option, refl, Some, sym, true, ℕ}
 use Rattle.std.specs.FinMap.{get}
 use Rattle.store_machine.specs.History.{made_at, snapshot}
 use Rattle.store_machine.specs.declared.machine.Status.{Status}
@@ -9,6 +9,7 @@ use Rattle.store_machine.specs.Made.{IsKept}
 use Rattle.store_machine.specs.declared.machine.State.{State}
 use Rattle.store_machine.proofs.Kept.{in_use-past}
 use Rattle.store_machine.proofs.Made.{Since, made-before, snapshot-made}
+use Rattle.store_machine.proofs.Pushed.{made-same}
 
 later : (v version : ℕ) → (version ≤ v → ⊥) → v < version
 later v version late = grind (arith, late)
@@ -19,15 +20,10 @@ not-none now version e since = never since.0 (sym e ∙ since.1)
     never : (status : Status) → None ≡ Some status → ⊥
     never status q = cc
 
-made_in : Option Status → ℕ
-made_in None = 0
-made_in (Some status) = made_at status
-
 same-made : (now : Option Status) (status : Status) (version : ℕ) → now ≡ Some status → Since version now
     → version ≤ made_at status
-unfolding made_in
-same-made now status version e since = let same : made_at status ≡ made_at since.0 = ap made_in (sym e ∙ since.1)
-    in omega (arith, same, since.2)
+same-made now status version e since =
+    omega (arith, made-same status since.0 (sym e ∙ since.1), since.2)
 
 pub read : (s : State) (v id : ℕ) (now : Option Status) → get (snapshot s.history v) id ≡ now → IsSound s
     → s.serves ≡ true → Contains (in_use s) v

@@ -1,5 +1,6 @@
 mod Ascending
 mod ByCalls
+pub mod Cuts
 mod Finds
 mod Growing
 pub mod Joins
@@ -12,6 +13,7 @@ mod Owned
 mod PagesRead
 mod Paging
 mod Parting
+pub mod Picks
 mod Pins
 mod Pushed
 mod Rebases

@@ -19,8 +19,9 @@ use Rattle.store_machine.specs.declared.machine.Reply.TheVariants.{Pinned}
 use Rattle.store_machine.specs.declared.machine.State.{State}
 use Rattle.store_machine.specs.declared.machine.Step.{Step}
 use Rattle.store_machine.proofs.Ascending.{Ascends, Ascends-from_on, Ascends-weaker, from_on-all, from_on-past, from_on-twice, past-le}
-use Rattle.store_machine.proofs.Finds.{AreMolecules, answers-are-one, found-ascends, found-from-one, found-hits, found-tried}
+use Rattle.store_machine.proofs.Finds.{AreMolecules, answers-are-one, found-ascends, found-from-one, found-hits}
 use Rattle.store_machine.proofs.PagesRead.{AreRead, IsRead, pages-read}
+use Rattle.store_machine.proofs.Picks.{found-tried}
 
 -- what is ahead after a page
 ahead-after : (last : Bool) (from limit : ℕ) (records all : List Found) → Ascends 0 all
@@ -93,15 +94,17 @@ pin_in-new slot p (x ∷ xs) e h =
       | false ↦ λ n. pin_in-new slot p xs e n
     ] h
 
--- what a Pin leaves
-record Taken (s s' : State) (slot owner version : ℕ) : Type 0 where
-  at : version ≡ head s.history
-  same : s'.history ≡ s.history
-  held : Holds s' slot owner version
+-- what a Pin found and leaves
+pub record Taken (s s' : State) (slot owner version : ℕ) : Type 0 where
+  pub free : pin_in slot s.pins ≡ None
+  pub at : version ≡ head s.history
+  pub same : s'.history ≡ s.history
+  pub held : Holds s' slot owner version
 
 taken-row : (s s' : State) (slot owner version : ℕ) → Gives s owner Pin (Pinned slot version) s'
     → Taken s s' slot owner version
 taken-row s s' slot owner version g = record {
+  free = g.1.2;
   at = g.1.3;
   same = ap (λ x. x.history) g.1.4;
   held =
@@ -110,7 +113,7 @@ taken-row s s' slot owner version g = record {
       ∙ ap (λ v. Some (record { slot = slot; owner = owner; version = v })) (sym g.1.3));
 }
 
-taken : (s s' : State) (by : ℕ) (e : Event) (r : Reply) (slot version : ℕ)
+pub taken : (s s' : State) (by : ℕ) (e : Event) (r : Reply) (slot version : ℕ)
     → e ≡ Pin → r ≡ Pinned slot version → Gives s by e r s' → Taken s s' slot by version
 taken s s' by e r slot version p q g =
     taken-row s s' slot by version (subst (λ x. Gives s by x (Pinned slot version) s') p

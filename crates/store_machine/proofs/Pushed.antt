@@ -65,6 +65,10 @@ made_in : Option Status → ℕ
 made_in None = 0
 made_in (Some status) = made_at status
 
+pub made-same : (a b : Status) → Some a ≡ Some b → made_at a ≡ made_at b
+unfolding made_in
+made-same a b e = ap made_in e
+
 pub same-key : (a b : ℕ) (o : Ordering) → nat_cmp a b ≡ o → is_eq o ≡ true → b ≡ a
 same-key a b Less e h = cc
 same-key a b Equal e h = sym (nat_cmp-IsAntisymmetric a b e)
@@ -73,12 +77,11 @@ same-key a b Greater e h = cc
 inserted : (states : Snapshot) (key : ℕ) (now : Status) (id : ℕ) (status : Status)
     → get (insert states key now) id ≡ Some status
     → ((key ≡ id) × (made_at now ≡ made_at status)) ⊎ (get states id ≡ Some status)
-unfolding made_in
 inserted states key now id status e =
     elim (eq_by_cmp nat_cmp id key) as (λ b. eq_by_cmp nat_cmp id key ≡ b
     → cond b (Some now) (get states id) ≡ Some status → ((key ≡ id) × (made_at now ≡ made_at status))
     ⊎ (get states id ≡ Some status)) [
-      | true ↦ λ t f. inl (same-key id key (nat_cmp id key) refl t, ap made_in f)
+      | true ↦ λ t f. inl (same-key id key (nat_cmp id key) refl t, made-same now status f)
       | false ↦ λ t f. inr f
     ] refl (sym (get-insert nat_cmp_total states key now id) ∙ e)
 

@@ -1,9 +1,10 @@
 -- The hits of a version, brought over its commit, are the hits of the next one.
-use Rattle.std.proofs.Common.{◌≡◌, ◌≢◌, ◌↔◌, ◌+◌, ◌∙◌, ap, append_assoc, arith, cond, Contains, false, inl, inr, length-append, List, [], ◌∷◌, nat_cmp, None, Option, refl, Some, subst, sym, true, ℕ}
+use Rattle.std.proofs.Common.{◌≡◌, ◌≢◌, ◌↔◌, ◌+◌, ◌∙◌, ap, append_assoc, arith, cond, Contains, false, inl, inr, length-append, List, [], ◌∷◌, nat_cmp, None, Option, Some, subst, sym, true, ℕ}
 use Rattle.std.proofs.lemmas.Bool.{cases_eq}
 use Rattle.std.specs.Arc.{arc_value}
 use Rattle.std.specs.Cmp.{nat_cmp_total}
 use Rattle.std.specs.FinMap.{get, get-insert, insert}
+use Rattle.std.specs.List.Sorted.{IsStrictlyIncreasing}
 use Rattle.std.specs.Ordering.{eq_by_cmp}
 use Rattle.chem_core.specs.Molecule.{Molecule}
 use Rattle.mol_finish.specs.Structure.{HasMolecule}
@@ -32,7 +33,7 @@ OneStructure = (format : Format) (text : List ℕ) (m n : Molecule) → HasMolec
     → HasMolecule format text n → m ≡ n
 
 -- a commit makes its own change of the version before
-committed : SnapshotsStay → CommitsChange → (h : History) (version v : ℕ) (c : Change) → IsCommit h version c
+pub committed : SnapshotsStay → CommitsChange → (h : History) (version v : ℕ) (c : Change) → IsCommit h version c
     → v + 1 ≡ version → snapshot h version ≡ after_change version c (snapshot h v)
 committed stay make h version v c is next =
     let before : History = record h { commits = is.before } in
@@ -54,7 +55,7 @@ committed stay make h version v c is next =
     (subst (λ m. snapshot h (n + 1) ≡ after_change (n + 1) c (snapshot h m)) was step)
 
 -- the state is live, with a text that the pattern matches
-abbrev IsMatchedIn : PatternTerm → Option Status → Type 0
+abbrev pub IsMatchedIn : PatternTerm → Option Status → Type 0
 IsMatchedIn p None = ⊥
 IsMatchedIn p (Some (Live version format text)) = IsMatched p format text
 IsMatchedIn p (Some (Withdrawn version)) = ⊥
@@ -96,55 +97,63 @@ elsewhere version (Revise key format text) states id other =
     inserted-elsewhere states key (Live version format text) id other
 elsewhere version (Withdraw key) states id other = inserted-elsewhere states key (Withdrawn version) id other
 
+-- what a change leaves at its identifier
+abbrev pub left_by : ℕ → Change → Status
+left_by version (Register key format text) = Live version format text
+left_by version (Revise key format text) = Live version format text
+left_by version (Withdraw key) = Withdrawn version
+
+here : (version : ℕ) (c : Change) (states : Snapshot)
+    → get (after_change version c states) (id_of c) ≡ Some (left_by version c)
+here version (Register key format text) states = inserted-here states key (Live version format text)
+here version (Revise key format text) states = inserted-here states key (Live version format text)
+here version (Withdraw key) states = inserted-here states key (Withdrawn version)
+
+-- hits over a change: its identifier is one exactly where the change leaves a match, and each other as before
+pub hits-over : (h : History) (v version : ℕ) (p : PatternTerm) (c : Change) (Leaves : Type 0) (old new : List ℕ)
+    → snapshot h version ≡ after_change version c (snapshot h v)
+    → IsMatchedIn p (Some (left_by version c)) ↔ Leaves → IsStrictlyIncreasing new
+    → Contains new (id_of c) ↔ Leaves → ((id : ℕ) → id ≢ id_of c → Contains new id ↔ Contains old id)
+    → AreHits h v p old → AreHits h version p new
+hits-over h v version p c Leaves old new is leaves ascending own others are =
+    let key = id_of c in
+    let state : get (snapshot h version) key ≡ Some (left_by version c) =
+    ap (λ (s : Snapshot). get s key) is ∙ here version c (snapshot h v) in
+    let same : (id : ℕ) → id ≢ key → get (snapshot h version) id ≡ get (snapshot h v) id =
+    λ id other. ap (λ (s : Snapshot). get s id) is ∙ elsewhere version c (snapshot h v) id other in
+    record {
+      ascending = ascending;
+      only = λ id has. elim (cases_eq id key) [
+        | inl e ↦ subst (λ n. IsAnswer (IsMatched p) h version n) (sym e)
+            (to-answer h version key p (Some (left_by version c)) state
+            (leaves.1 (own.0 (subst (λ n. Contains new n) e has))))
+        | inr other ↦ to-answer h version id p (get (snapshot h v) id) (same id other)
+            (from-answer h v id p (are.only id ((others id other).0 has)))
+      ];
+      all = λ id answer. elim (cases_eq id key) [
+        | inl e ↦ subst (λ n. Contains new n) (sym e) (own.1 (leaves.0 (subst (IsMatchedIn p) state
+            (from-answer h version key p (subst (λ n. IsAnswer (IsMatched p) h version n) e answer)))))
+        | inr other ↦ (others id other).1 (are.all id (to-answer h v id p (get (snapshot h version) id)
+            (sym (same id other)) (from-answer h version id p answer)))
+      ];
+    }
+
 -- a record's text is matched exactly where its structure is
 matched : OneStructure → (p : PatternTerm) (r : RecordTerm) → IsRecord r → IsMatched p r.format r.text ↔ Matches p r.mol
 matched one p r sound =
     (λ m. subst (Matches p) (one r.format r.text m.0 r.mol m.1 sound.structure) m.2, λ m. (r.mol, sound.structure, m))
 
-here : OneStructure → (version : ℕ) (p : PatternTerm) (change : Asked) (states : Snapshot) → IsSoundChange change
-    → IsMatchedIn p (get (after_change version (change_of change) states) (id_of (change_of change)))
-    ↔ LeavesMatch p change
-here one version p (asked.Register r) states sound =
-    let x = arc_value r in
-    subst (λ o. IsMatchedIn p o ↔ Matches p x.mol) (sym (inserted-here states x.id (Live version x.format x.text)))
-    (matched one p x sound)
-here one version p (asked.Revise r) states sound =
-    let x = arc_value r in
-    subst (λ o. IsMatchedIn p o ↔ Matches p x.mol) (sym (inserted-here states x.id (Live version x.format x.text)))
-    (matched one p x sound)
-here one version p (asked.Withdraw id) states sound =
-    subst (λ o. IsMatchedIn p o ↔ ⊥) (sym (inserted-here states id (Withdrawn version))) (λ m. m, λ m. m)
-
-brought-over : OneStructure → (h : History) (v version : ℕ) (p : PatternTerm) (change : Asked) (old new : List ℕ)
-    → IsSoundChange change → snapshot h version ≡ after_change version (change_of change) (snapshot h v)
-    → IsListAfter p change old new → AreHits h v p old → AreHits h version p new
-brought-over one h v version p change old new sound is list are =
-    let key = id_of (change_of change) in
-    let own : IsMatchedIn p (get (snapshot h version) key) ↔ LeavesMatch p change =
-    subst (λ (s : Snapshot). IsMatchedIn p (get s key) ↔ LeavesMatch p change) (sym is)
-    (here one version p change (snapshot h v) sound) in
-    let same : (id : ℕ) → id ≢ key → get (snapshot h version) id ≡ get (snapshot h v) id =
-    λ id other. ap (λ (s : Snapshot). get s id) is ∙ elsewhere version (change_of change) (snapshot h v) id other in
-    record {
-      ascending = list.ascending;
-      only = λ id has. elim (cases_eq id key) [
-        | inl e ↦ subst (λ n. IsAnswer (IsMatched p) h version n) (sym e)
-            (to-answer h version key p (get (snapshot h version) key) refl
-            (own.1 (list.own.0 (subst (λ n. Contains new n) e has))))
-        | inr other ↦ to-answer h version id p (get (snapshot h v) id) (same id other)
-            (from-answer h v id p (are.only id ((list.others id other).0 has)))
-      ];
-      all = λ id answer. elim (cases_eq id key) [
-        | inl e ↦ subst (λ n. Contains new n) (sym e) (list.own.1 (own.0
-            (from-answer h version key p (subst (λ n. IsAnswer (IsMatched p) h version n) e answer))))
-        | inr other ↦ (list.others id other).1 (are.all id (to-answer h v id p (get (snapshot h version) id)
-            (sym (same id other)) (from-answer h version id p answer)))
-      ];
-    }
+leaves-match : OneStructure → (version : ℕ) (p : PatternTerm) (change : Asked) → IsSoundChange change
+    → IsMatchedIn p (Some (left_by version (change_of change))) ↔ LeavesMatch p change
+leaves-match one version p (asked.Register r) sound = matched one p (arc_value r) sound
+leaves-match one version p (asked.Revise r) sound = matched one p (arc_value r) sound
+leaves-match one version p (asked.Withdraw id) sound = (λ m. m, λ m. m)
 
 pub stays-right : OneStructure → SnapshotsStay → CommitsChange → (version : ℕ) (change : Asked) (old new : Watch)
     → IsSoundChange change → old.version + 1 ≡ version
     → IsListAfter (pattern_of old.pattern) change old.hits new.hits → StaysRight version (change_of change) old new
 stays-right one stay make version change old new sound next list h is are =
-    brought-over one h old.version version (pattern_of old.pattern) change old.hits new.hits sound
-    (committed stay make h version old.version (change_of change) is next) list are
+    let p = pattern_of old.pattern in
+    hits-over h old.version version p (change_of change) (LeavesMatch p change) old.hits new.hits
+    (committed stay make h version old.version (change_of change) is next) (leaves-match one version p change sound)
+    list.ascending list.own list.others are

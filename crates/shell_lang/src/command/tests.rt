@@ -73,6 +73,10 @@ fn lines_are_read_by_their_parts(rt: HostRuntime) {
         ("similar 1 2 18446744073709551626 CO", Some(Syntax)),
         ("prune", None),
         ("prune ", Some(Syntax)),
+        ("compact", None),
+        ("compact ", Some(Syntax)),
+        ("compact 1", Some(Syntax)),
+        ("compaction", Some(Syntax)),
         (" stats", Some(Syntax)),
         ("Stats", Some(Syntax)),
     ] {

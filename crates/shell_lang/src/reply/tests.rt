@@ -79,6 +79,8 @@ fn replies_are_written(rt: HostRuntime) -> Result<(), Fail> {
         ),
         (Reply::Unwatched, "unwatched\n"),
         (Reply::Pruned { count: 3 }, "pruned 3\n"),
+        (Reply::Compacting { left: 744 }, "compacting 744\n"),
+        (Reply::Compacted { generation: 2 }, "compacted 2\n"),
         (
             Reply::Counts(STATS),
             "stats version 5 live 2 withdrawn 1 kept 4 pins 0\n",
@@ -93,6 +95,7 @@ fn replies_are_written(rt: HostRuntime) -> Result<(), Fail> {
         (Reply::Refused(Refusal::Withdrawn), "refused withdrawn\n"),
         (Reply::Refused(Refusal::Data), "refused data\n"),
         (Reply::Refused(Refusal::Pins), "refused pins\n"),
+        (Reply::Refused(Refusal::Generation), "refused generation\n"),
         (Reply::DiskFault { doubt: false }, "fault disk sure\n"),
         (Reply::DiskFault { doubt: true }, "fault disk doubt\n"),
         (Reply::MemoryFault, "fault memory\n"),

@@ -8,21 +8,22 @@ returns-in_err-first c = rw c.from_residual.ensures
 
 pub returns-in_err-number : goal.returns-in_err-number
 returns-in_err-number c = rw c.from_residual-in_err-number.ensures
-    (not_stop c.args.line.now c.in_ok-first.first.now c.in_ok-first.rest.now c.in_ok-first.ensures.parts
-    c.in_ok-first.ensures.first c.if-are_same.ensures.same c.in_err-number.ensures.none)
+    (not_stop c.in-Some.disk c.args.line.now c.in_ok-first.first.now c.in_ok-first.rest.now
+    c.in_ok-first.ensures.parts c.in_ok-first.ensures.first c.in-Some.ensures.some c.in_err-number.ensures.none)
 
 pub returns-in_err-number_from_1 : goal.returns-in_err-number_from_1
 returns-in_err-number_from_1 c = rw c.from_residual-in_err-number_from_1.ensures
-    (not_fail c.args.line.now c.in_ok-first.first.now c.in_ok-first.rest.now c.in_ok-first.ensures.parts
-    c.in_ok-first.ensures.first c.if-are_same-2.ensures.same c.in_err-number_from_1.ensures.none)
+    (not_fail c.in-Some-disk_of.disk c.args.line.now c.in_ok-first.first.now c.in_ok-first.rest.now
+    c.in_ok-first.ensures.parts c.in_ok-first.ensures.first c.in-Some-disk_of.ensures.some
+    c.in_err-number_from_1.ensures.none)
 
 pub returns-in_err-number-2 : goal.returns-in_err-number-2
 returns-in_err-number-2 c = rw c.from_residual-in_err-number-2.ensures
     (not_reopen c.args.line.now c.in_ok-first.first.now c.in_ok-first.rest.now c.in_ok-first.ensures.parts
-    c.in_ok-first.ensures.first c.if-are_same-3.ensures.same c.in_err-number-2.ensures.none)
+    c.in_ok-first.ensures.first c.if-are_same.ensures.same c.in_err-number-2.ensures.none)
 
 pub returns-in_err-number_from_1-2 : goal.returns-in_err-number_from_1-2
 returns-in_err-number_from_1-2 c = rw c.from_residual-in_err-number_from_1-2.ensures
     (not_session c.args.line.now c.in_ok-first.first.now c.in_ok-first.rest.now c.in_ok-first.ensures.parts
-    c.in_ok-first.ensures.first c.if-are_same.ensures.other c.if-are_same-2.ensures.other
-    c.if-are_same-3.ensures.other c.in_err-number_from_1-2.ensures.none)
+    c.in_ok-first.ensures.first c.in_default.ensures.none c.in_default-disk_of.ensures.none
+    c.if-are_same.ensures.other c.in_err-number_from_1-2.ensures.none)

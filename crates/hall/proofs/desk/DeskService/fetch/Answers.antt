@@ -1,7 +1,8 @@
 -- What the pass's turn tells.
 use Rattle.std.proofs.Common.{refl}
 use Rattle.store_machine.specs.declared.machine.Event.TheVariants.{Fetch}
-use Rattle.hall.proofs.Holding.{call-is-one, same-held}
+use Rattle.hall.proofs.Calls.{other-call}
+use Rattle.hall.proofs.Holding.{same-held}
 use Rattle.hall.proofs.desk.DeskService.fetch.Goals as goal
 
 pub returns-clause-call : goal.returns-clause-call
@@ -10,5 +11,8 @@ returns-clause-call g c = λ s at.
     record { steps = made.steps; after = made.after; stands = made.stands; own = made.own }
 
 pub returns-clause-held : goal.returns-clause-held
-returns-clause-held g c = same-held _ _ (Fetch c.args.pin.now.slot c.args.want.now c.args.from c.args.limit) _ c.fetch.ensures.answered.pins
-    (call-is-one (Fetch c.args.pin.now.slot c.args.want.now c.args.from c.args.limit) _ c.fetch.result) (λ slot. refl) (λ e. cc e)
+returns-clause-held g c =
+    same-held _ _ (Fetch c.args.pin.now.slot c.args.want.now c.args.from c.args.limit) _ _
+    c.fetch.ensures.answered.pins
+    (other-call (Fetch c.args.pin.now.slot c.args.want.now c.args.from c.args.limit) _ c.fetch.result)
+    (λ slot. refl) (λ e. cc e)

@@ -1,7 +1,8 @@
 -- What the pass's turn tells.
 use Rattle.std.proofs.Common.{refl}
 use Rattle.store_machine.specs.declared.machine.Event.TheVariants.{Prune}
-use Rattle.hall.proofs.Holding.{call-is-one, same-held}
+use Rattle.hall.proofs.Calls.{other-call}
+use Rattle.hall.proofs.Holding.{same-held}
 use Rattle.hall.proofs.desk.DeskService.prune.Goals as goal
 
 pub returns-clause-call : goal.returns-clause-call
@@ -10,5 +11,6 @@ returns-clause-call g c = λ s at.
     record { steps = made.steps; after = made.after; stands = made.stands; own = made.own }
 
 pub returns-clause-held : goal.returns-clause-held
-returns-clause-held g c = same-held _ _ Prune _ c.prune.ensures.answered.pins
-    (call-is-one Prune _ c.prune.result) (λ slot. refl) (λ e. cc e)
+returns-clause-held g c =
+    same-held _ _ Prune _ _ c.prune.ensures.answered.pins
+    (other-call Prune _ c.prune.result) (λ slot. refl) (λ e. cc e)

@@ -1,11 +1,9 @@
 -- The turn adds the one event of the call, or none where all turns were taken.
-use Rattle.std.proofs.Common.{◌++◌, rules, subst}
+use Rattle.std.proofs.Common.{rules}
 use Rattle.store_machine.specs.declared.machine.Event.TheVariants.{Prune}
-use Rattle.turn_gate.proofs.Lists.{has_head}
-use Rattle.hall.specs.Histories.{Adds, after}
-use Rattle.hall.specs.Passes.{known}
-use Rattle.hall.proofs.Asking.{from-err, may-call}
-use Rattle.hall.proofs.Turning.{ended-as, gave-up, names-of}
+use Rattle.hall.proofs.Asking.{from-err}
+use Rattle.hall.proofs.Calls.{other-call}
+use Rattle.hall.proofs.Turning.{ended-as, gave-up, names-anyones}
 use Rattle.hall.proofs.hall.Hall.prune.Goals as goal
 
 pub returns-in-Err-clause-answered : goal.returns-in-Err-clause-answered
@@ -15,12 +13,9 @@ returns-in-Err-clause-answered g c =
 
 pub end-requires-clause-names : goal.end-requires-clause-names
 end-requires-clause-names g c =
-    let sees = c.in-Ok.ensures.sees in
-    let number = has_head _ c.requires.of.numbered in
-    names-of _ c.args.pass.now _ c.in-Ok.turn.value c.prune-answer.new.self number.0 sees
-    (subst (λ v. Adds g.D.Disk.model v c.prune-answer.new.self) c.value.ensures.value c.prune-answer.ensures.adds) number.1
-    (may-call c.prune-answer.new.self Prune _ c.prune-answer.result c.prune-answer.ensures.told c.prune-answer.ensures.not_worn
-    (after sees.origin.state ((known c.args.pass.now).seen ++ sees.more)) number.0 tt)
+    names-anyones _ c.args.self.now c.args.pass.now _ _ c.in-Ok.turn.value c.prune-answer.new.self Prune _ _
+    c.requires.of c.in-Ok.ensures.sees c.value.ensures.value c.prune-answer.ensures.adds
+    (other-call Prune _ c.prune-answer.result) c.prune-answer.ensures.not_worn c.prune-answer.ensures.told (λ s n. tt)
 
 pub returns-clause-answered : goal.returns-clause-answered
 returns-clause-answered g c =

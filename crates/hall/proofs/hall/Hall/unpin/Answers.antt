@@ -1,11 +1,10 @@
 -- The turn adds the one event of the call, or none where all turns were taken.
-use Rattle.std.proofs.Common.{◌++◌, rules, subst, sym}
+use Rattle.std.proofs.Common.{rules, subst, sym}
 use Rattle.store_machine.specs.declared.machine.Event.TheVariants.{Unpin}
 use Rattle.store_core.specs.Stored.{HoldsPin}
-use Rattle.hall.specs.Histories.{Adds, after}
-use Rattle.hall.specs.Passes.{known}
-use Rattle.hall.proofs.Asking.{from-err, may-call, store-holds}
-use Rattle.hall.proofs.Turning.{ended-as, gave-up, held-at, names-of}
+use Rattle.hall.proofs.Asking.{from-err, store-holds}
+use Rattle.hall.proofs.Calls.{other-call}
+use Rattle.hall.proofs.Turning.{ended-as, gave-up, held-at, names-call}
 use Rattle.hall.proofs.hall.Hall.unpin.Goals as goal
 
 pub returns-in-Err-clause-answered : goal.returns-in-Err-clause-answered
@@ -16,10 +15,12 @@ returns-in-Err-clause-answered g c =
 pub unpin-answer-requires : goal.unpin-answer-requires
 unpin-answer-requires g c =
     let sees = c.in-Ok.ensures.sees in
-    let held = held-at _ c.laws.ensures.stay c.args.pass.now _ _ c.args.pin.slot c.args.pin.version sees c.requires.held in
+    let held = held-at _ c.laws.ensures.stay c.args.pass.now _ _ c.args.pin.slot c.args.pin.version sees
+    c.requires.held in
     record {
       held = subst (λ v. HoldsPin v.store.memory c.args.pin.slot c.args.pin.version) (sym c.value.ensures.value)
-          (store-holds _ c.in-Ok.turn.value.store _ c.args.pin.slot c.requires.held.owner c.args.pin.version sees.standing.stands.ends held);
+          (store-holds _ c.in-Ok.turn.value.store _ c.args.pin.slot c.requires.held.owner c.args.pin.version
+          sees.standing.stands.ends held);
     }
 
 pub end-requires-clause-names : goal.end-requires-clause-names
@@ -27,11 +28,10 @@ end-requires-clause-names g c =
     let sees = c.in-Ok.ensures.sees in
     let k = c.requires.held in
     let held = held-at _ c.laws.ensures.stay c.args.pass.now _ _ c.args.pin.slot c.args.pin.version sees k in
-    names-of _ c.args.pass.now _ c.in-Ok.turn.value c.unpin-answer.new.self k.owner sees
-    (subst (λ v. Adds g.D.Disk.model v c.unpin-answer.new.self) c.value.ensures.value c.unpin-answer.ensures.adds) k.own
-    (may-call c.unpin-answer.new.self (Unpin c.args.pin.slot) _ c.unpin-answer.result c.unpin-answer.ensures.told c.unpin-answer.ensures.not_worn
-    (after sees.origin.state ((known c.args.pass.now).seen ++ sees.more)) k.owner
-    (c.args.pin.version, held))
+    names-call _ c.args.pass.now _ _ c.in-Ok.turn.value c.unpin-answer.new.self (Unpin c.args.pin.slot)
+    _ _ k.owner sees c.value.ensures.value c.unpin-answer.ensures.adds
+    (other-call (Unpin c.args.pin.slot) _ c.unpin-answer.result)
+    c.unpin-answer.ensures.not_worn c.unpin-answer.ensures.told k.own (c.args.pin.version, held)
 
 pub returns-clause-answered : goal.returns-clause-answered
 returns-clause-answered g c =

@@ -35,6 +35,10 @@ returns-in-Data-clause-answered g c more = rw c.in-Data.is (keeps_all _ (find_no
 pub returns-in-Prune-clause-answered : goal.returns-in-Prune-clause-answered
 returns-in-Prune-clause-answered g c more = rw c.in-Prune.is (keeps_all _ (asks_none events.Prune tt) (c.prune.ensures _ _))
 
+pub returns-in-Compact-clause-answered : goal.returns-in-Compact-clause-answered
+returns-in-Compact-clause-answered g c more =
+    rw c.in-Compact.is (keeps_all _ (asks_none events.Compact tt) (c.compact.ensures _ _))
+
 pub returns-in-Stats-clause-answered : goal.returns-in-Stats-clause-answered
 returns-in-Stats-clause-answered g c more = rw c.in-Stats.is (keeps_all _ (asks_none events.Stats tt) (c.stats.ensures _ _))
 

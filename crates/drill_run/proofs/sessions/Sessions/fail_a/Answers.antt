@@ -1,18 +1,19 @@
 use Rattle.std.proofs.Common.{ap, refl, Some}
 use Rattle.disk_edge.specs.Medium.{Medium}
 use Rattle.disk_pair.specs.Term.{disk_a, disk_b}
+use Rattle.disk_pair.specs.declared.choice.Which.TheVariants.{First}
 use Rattle.drill_run.specs.Dialogue.{set_text}
 use Rattle.drill_run.specs.Lines as lines
 use Rattle.drill_run.specs.Turns.{WorldTerm}
 use Rattle.drill_run.proofs.Answering.{quiet-by}
 use Rattle.drill_run.proofs.Tallies.{tally-fail}
-use Rattle.drill_run.proofs.sessions.Sessions.fail.Goals as goal
+use Rattle.drill_run.proofs.sessions.Sessions.fail_a.Goals as goal
 
 pub returns : goal.returns
 returns c = λ line reads.
-    quiet-by c.args.self.now c.say.new.self c.args.world c.fail_once.new.self line (Some (lines.Fail c.args.call))
-    set_text c.requires.ready c.requires.empty reads (refl, refl, refl) c.fail_once.ensures.stands
-    (ap (λ (w : WorldTerm). w.memory) c.fail_once.ensures.only)
+    quiet-by c.args.self.now c.say.new.self c.args.world c.fail_once.new.self line
+    (Some (lines.Fail First c.args.call)) set_text c.requires.ready c.requires.empty reads (refl, refl, refl)
+    c.fail_once.ensures.stands (ap (λ (w : WorldTerm). w.memory) c.fail_once.ensures.only)
     (λ t h.
     let old = c.args.world.pair in
     let new = c.fail_once.new.self.pair in

@@ -1,0 +1,203 @@
+//! Compactions: what is written, while others work, and where a disk stops or fails at a call of one.
+
+use super::{Answer, PLAIN, call_on, check, put_by};
+use disk_edge::MemDisk;
+use std::alloc::{AllocError, Global};
+use std::sync::Wait;
+use std::test::Fail;
+use std::thread::Threads;
+
+// A store of one commit.
+const ONE_COMMIT: &[u8] = b"ZCHEMDB1Z\x09\0\0\0\x01\x01\0\0\0\x01CCO\0";
+
+// The same store, compacted once: a header, and a base of one record.
+const COMPACTED: &[u8] =
+    b"ZCHEMDB2\x01\0\0\0\x01\0\0\0\x01\0\0\0\x0d\0\0\0\x04\x01\0\0\0\x01\0\0\0\x01CCO\0";
+
+// `run` of a script over two disks with these bytes.
+fn run<R: Threads + Wait + Sync>(
+    rt: &R,
+    alloc: Global,
+    a: &[u8],
+    b: &[u8],
+    script: &str,
+) -> Result<Answer, AllocError> {
+    let a = MemDisk::of(alloc, a.to_vec(alloc)?)?;
+    let b = MemDisk::of(alloc, b.to_vec(alloc)?)?;
+    call_on(rt, alloc, &["run", "f"], script.as_bytes(), PLAIN, (a, b))
+}
+
+#[test]
+fn a_store_is_compacted(rt: HostRuntime) -> Result<(), Fail> {
+    let alloc = rt.alloc();
+    let first = run(&rt, alloc, ONE_COMMIT, b"", "compact\ncompact\ncompact\n")?;
+    assert_eq!(rt; first.status, 0);
+    assert_eq!(rt;
+        put_by(&first),
+        b"compacting 1\ncompacting 0\ncompacted 1\n".as_slice()
+    );
+    assert_eq!(rt; first.a.bytes(), ONE_COMMIT);
+    assert_eq!(rt; first.b.bytes(), COMPACTED);
+    let second = run(&rt, alloc, ONE_COMMIT, COMPACTED, "show 1\nregister 2 C\n")?;
+    assert_eq!(rt; second.status, 0);
+    assert_eq!(rt;
+        put_by(&second),
+        b"record 1 version 1 smiles CCO\nok 2\n".as_slice()
+    );
+    assert_eq!(rt; second.a.bytes(), ONE_COMMIT);
+    // the other way back
+    let third = run(
+        &rt,
+        alloc,
+        ONE_COMMIT,
+        second.b.bytes(),
+        "compact\ncompact\ncompact\nstats\n",
+    )?;
+    assert_eq!(rt;
+        put_by(&third),
+        b"compacting 2\ncompacting 0\ncompacted 2\nstats version 2 live 2 withdrawn 0 kept 2 pins 0\n".as_slice()
+    );
+    assert_eq!(rt; &third.a.bytes()[..12], b"ZCHEMDB2\x02\0\0\0".as_slice());
+    // a copy that is cut
+    let cut = run(&rt, alloc, ONE_COMMIT, &COMPACTED[..36], "show 1\n")?;
+    assert_eq!(rt; cut.status, 7);
+    assert_eq!(rt; cut.place, 20);
+    Ok(())
+}
+
+#[test]
+fn others_go_on(rt: HostRuntime) -> Result<(), Fail> {
+    let alloc = rt.alloc();
+    check(
+        &rt,
+        alloc,
+        &["mem"],
+        "\
+        > register 1 CCO\n\
+        < ok 1\n\
+        > register 2 CO\n\
+        < ok 2\n\
+        > revise 1 CCC\n\
+        < ok 3\n\
+        > compact\n\
+        < compacting 2\n\
+        > withdraw 2\n\
+        < ok 4\n\
+        > compact\n\
+        < compacting 0\n\
+        > compact\n\
+        < compacted 1\n\
+        > stats\n\
+        < stats version 4 live 1 withdrawn 1 kept 4 pins 0\n\
+        > prune\n\
+        < pruned 2\n\
+        ",
+    )?;
+    // what a cursor sees stays
+    check(
+        &rt,
+        alloc,
+        &["drill"],
+        "\
+        > 1 register 1 CO\n\
+        < 1 ok 1\n\
+        > 1 open s C\n\
+        < 1 opened 1\n\
+        > 2 revise 1 N\n\
+        < 2 ok 2\n\
+        > 2 compact\n\
+        < 2 compacting 1\n\
+        > 2 compact\n\
+        < 2 compacting 0\n\
+        > 2 compact\n\
+        < 2 compacted 1\n\
+        > 2 prune\n\
+        < 2 pruned 0\n\
+        > 1 next s\n\
+        < 1 hit 1\n\
+        < 1 end at 1 tried 1 hits 1\n\
+        ",
+    )?;
+    // a commit behind a finish in doubt
+    check(
+        &rt,
+        alloc,
+        &["drill"],
+        "\
+        > 1 register 1 C\n\
+        < 1 ok 1\n\
+        > 1 compact\n\
+        < 1 compacting 1\n\
+        > 1 compact\n\
+        < 1 compacting 0\n\
+        > fail-b 3\n\
+        < set\n\
+        > 1 compact\n\
+        < 1 fault disk doubt\n\
+        > 1 register 2 C\n\
+        < 1 ok 2\n\
+        > reopen 2\n\
+        < reopened 2\n\
+        ",
+    )
+}
+
+// The generation of the compaction behind a crash that left the image of this number, where the disk was stopped after
+// so many calls of the finish before it.
+const GENERATIONS: [[u32; 4]; 5] = [
+    [1, 1, 1, 1],
+    [1, 1, 1, 1],
+    [1, 1, 2, 1],
+    [2, 1, 2, 1],
+    [2, 2, 2, 2],
+];
+
+// The answer of that finish.
+const FINISHES: [&str; 5] = [
+    "fault disk sure",
+    "fault disk sure",
+    "fault disk doubt",
+    "fault disk doubt",
+    "compacted 1",
+];
+
+#[test]
+fn a_finish_is_stopped_at_each_call(rt: HostRuntime) -> Result<(), Fail> {
+    let alloc = rt.alloc();
+    for (calls, (finish, row)) in FINISHES.iter().zip(&GENERATIONS).enumerate() {
+        for (image, generation) in row.iter().enumerate() {
+            let lines = format!(in alloc;
+                "\
+                > 1 register 1 CCO\n< 1 ok 1\n\
+                > 1 compact\n< 1 compacting 1\n\
+                > 1 register 2 CO\n< 1 ok 2\n\
+                > 1 compact\n< 1 compacting 0\n\
+                > stop-b {calls}\n< set\n\
+                > 1 compact\n< 1 {finish}\n\
+                > reopen {image}\n< reopened 2\n\
+                > 1 compact\n< 1 compacting 2\n\
+                > 1 compact\n< 1 compacting 0\n\
+                > 1 compact\n< 1 compacted {generation}\n"
+            )?;
+            check(&rt, alloc, &["drill"], lines.as_str())?;
+        }
+    }
+    Ok(())
+}
+
+// A step writes 256 items.
+#[test]
+fn steps_of_a_large_copy(rt: HostRuntime) -> Result<(), Fail> {
+    let alloc = rt.alloc();
+    let mut lines = String::new(alloc);
+    for id in 1..=600_u32 {
+        let line = format!(in alloc; "> register {id} C\n< ok {id}\n")?;
+        lines.push_str(line.as_str())?;
+    }
+    for left in [600, 344, 88, 0_u32] {
+        let line = format!(in alloc; "> compact\n< compacting {left}\n")?;
+        lines.push_str(line.as_str())?;
+    }
+    lines.push_str("> compact\n< compacted 1\n> compact\n< compacting 600\n")?;
+    check(&rt, alloc, &["mem"], lines.as_str())
+}
