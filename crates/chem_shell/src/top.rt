@@ -38,7 +38,7 @@ use store_disk::Disks;
 /// The program over the objects that it is handed: what the words ask for is done with the ends and the disks, and the
 /// statuses say how it ended. `mem` serves one end by a session over a store in memory, and `run` over the store of
 /// both disks; `serve` serves several at the same time over that store; `bulk` puts a summary to one; `drill` serves
-/// one by sessions on a store in memory whose disk is stopped, failed and reopened; `init` makes a store on both disks,
+/// one by sessions on a store in memory whose disks are stopped, failed and reopened; `init` makes a store on both,
 /// and has no end.
 pub fn chemdb<
     R: Threads + Wait + Sync,
@@ -94,7 +94,7 @@ pub fn chemdb<
     // `run`: where the store was not loaded, nothing was taken or put, and the disks were only read. Else what was
     // written is a prefix of a transcript, as for `mem`, in a run that begins with the history of both disks. A crash
     // at any moment of a step leaves each commit that was acknowledged before it, in order, and at most one more; and
-    // afterwards the disks have the run's history. A disk fault comes only where a disk counted one in that commit.
+    // afterwards the disks have the run's history. A disk fault comes only where a disk counted one in that call.
     ensures run { OnPlan (texts words.now) Verb.Run (λ plan. AllZip (λ old new.
         IsRefused D.model (record { a = a; b = b }) (disks_of result) old new
         ⊎ RunsOn D.model S.left K.written plan (record { a = a; b = b }) (disks_of result) old new)
@@ -117,7 +117,7 @@ pub fn chemdb<
     // `drill`: what was written is a prefix of a drill of the source's bytes, by pages of the plan, in a run of a store
     // in memory that begins empty and may have the plan's commits, with a crash and an opening for each reopening; all
     // of one where the status is 0. Each session's searches, cursors, lookups and watches that ended told exactly what
-    // the run's history has. A disk fault comes only where the lines `stop` and `fail` before it allow it.
+    // the run's history has. A disk fault comes only where lines before it allow it that stop or fail a disk.
     ensures drill { OnPlan (texts words.now) Verb.Drill (λ plan. (disks_of result ≡ record { a = a; b = b })
         × AllZip (ServesDrill plan S.left K.written) ends.items result.ends.items) }
 {

@@ -35,7 +35,8 @@ commands
   bulk SEED COUNT  run a generated script over a store in memory, and print its summary;
                    SEED is 1 to 2147483646, and COUNT, the structures to register, 0 to 100000
   drill            serve the drill of standard input: lines of 16 sessions on a store in memory,
-                   `stop K` and `fail K`, by which its disk fails, and `reopen N` after a crash
+                   `stop K` and `fail K`, by which its disk fails, `stop-b K` and `fail-b K` for
+                   its second disk, and `reopen N` after a crash
 
 options
   --workers N  threads for matching, 1 to 16; 1 if left out

@@ -24,7 +24,6 @@ use Rattle.store_machine.specs.declared.machine.Reply.TheVariants as replies
 abbrev pub NamesPin : (ℕ → ℕ → Type 0) → Event → Type 0
 NamesPin mine (events.Fetch slot want from limit) = (version : ℕ) × mine slot version
 NamesPin mine (events.Unpin slot) = (version : ℕ) × mine slot version
-NamesPin mine events.Compact = ⊥
 NamesPin mine events.Crash = ⊥
 NamesPin mine events.Open = ⊥
 NamesPin mine _ = Unit {0}
@@ -42,7 +41,7 @@ by-under a b c u s v h = after-under a b (c ∷ []) u s v h
 name-under : (a b : ℕ → ℕ → Type 0) (e : Event) → ((s v : ℕ) → a s v → b s v) → NamesPin a e → NamesPin b e
 name-under a b (events.Fetch slot want from limit) u n = (n.0, u slot n.0 n.1)
 name-under a b (events.Unpin slot) u n = (n.0, u slot n.0 n.1)
-name-under a b events.Compact u n = n
+name-under a b events.Compact u n = tt
 name-under a b events.Crash u n = n
 name-under a b events.Open u n = n
 name-under a b (events.Commit change) u n = tt
@@ -150,7 +149,7 @@ ask-named : (a : ℕ → ℕ → Type 0) (event : Event) (reply : Reply) (said :
     → NamesPin a event
 ask-named a (events.Fetch slot want from limit) reply said is = absurd is
 ask-named a (events.Unpin slot) reply said is = absurd is
-ask-named a events.Compact reply said is = absurd is
+ask-named a events.Compact reply said is = tt
 ask-named a events.Crash reply said is = absurd is
 ask-named a events.Open reply said is = absurd is
 ask-named a (events.Commit change) reply said is = tt

@@ -32,7 +32,7 @@ named-call a (Unpin slot) names = refl
 named-call a Prune names = refl
 named-call a (Look id) names = refl
 named-call a Stats names = refl
-named-call a Compact names = absurd names
+named-call a Compact names = refl
 named-call a Crash names = absurd names
 named-call a Open names = absurd names
 

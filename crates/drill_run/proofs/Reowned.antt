@@ -1,10 +1,11 @@
 -- A step of the store's machine from a state whose pins are others' leads to the same but for the owners of pins, where
 -- the pin that it names is its own.
-use Rattle.std.proofs.Common.{◌≡◌, ◌==◌, ◌↔◌, ◌++◌, ◌∙◌, ap, arith, Bool, cond, Contains, false, filter, length, List, [], ◌∷◌, map, None, not, Option, refl, Some, subst, suc, sym, true, ℕ}
+use Rattle.std.proofs.Common.{◌≡◌, ◌==◌, ◌↔◌, ◌++◌, ◌∙◌, ap, arith, Bool, cond, Contains, false, filter, inl, inr, length, List, [], ◌∷◌, map, None, not, Option, refl, Some, subst, suc, sym, true, ℕ}
 use Rattle.std.proofs.lemmas.List.{map-append}
 use Rattle.store_machine.specs.History.{head}
 use Rattle.store_machine.specs.Kept.{IsNeeded, copied}
-use Rattle.store_machine.specs.Machine.{AreNeeded, Becomes, CommitGives, DoubtAfter, EndsDoubts, FetchGives, Gives, LookGives, PruneGives, StatsGives, pin_in}
+use Rattle.store_machine.proofs.Pins.{compact-aside}
+use Rattle.store_machine.specs.Machine.{AreNeeded, Becomes, CommitGives, CompactGives, DoubtAfter, EndsDoubts, FetchGives, Gives, GivesUp, LookGives, PruneGives, StatsGives, copying, pin_in, replaced}
 use Rattle.store_machine.specs.Owners.{unowned}
 use Rattle.store_machine.specs.declared.machine.Change.{Change}
 use Rattle.store_machine.specs.declared.machine.Event.{Event}
@@ -163,6 +164,20 @@ module _ (s t : State) (ps : List Held) (n : ℕ) where
       (g.0, g.1, g.2, g.3, g.4 ∙ sym (length-alike s.pins ps e), becomes s g.5)
   stats _ e g = absurd g
 
+  gives-up : (doubt : Bool) → GivesUp s doubt t → GivesUp (with_pins s ps) doubt (with_pins t ps)
+  gives-up true g = (g.0, g.1, becomes (record s { copy = None; finish = Some g.0 }) g.2)
+  gives-up false g = (g.0, becomes (record s { copy = None; finish = t.finish }) g.1)
+
+  compacts : (r : Reply) → CompactGives s r t → CompactGives (with_pins s ps) r (with_pins t ps)
+  compacts reply.Last g = (g.0, g.1, becomes s g.2)
+  compacts (reply.More left) (inl g) =
+      inl (g.0, g.1, g.2, becomes (record (copying s (head s.history) left) { finish = None }) g.3)
+  compacts (reply.More left) (inr g) = inr (g.0, g.1, g.2, g.3, g.4, becomes (copying s g.0 left) g.5)
+  compacts (reply.Done generation) g = (g.0, g.1, g.2, becomes (replaced s g.1) g.3)
+  compacts (reply.DiskFault doubt) g = (g.0, gives-up doubt g.1)
+  compacts reply.NoMemory g = (g.0, g.1, becomes (record s { copy = t.copy; finish = t.finish }) g.2)
+  compacts _ g = absurd g
+
   fetches : (o slot : ℕ) (want : List Bool) (from limit : ℕ) (r : Reply) (v : ℕ) → Alike s.pins ps
       → IsHeld ps n slot v → FetchGives s o slot want from limit r t
       → FetchGives (with_pins s ps) n slot want from limit r (with_pins t ps)
@@ -288,6 +303,10 @@ step-reowned s t ps o n Stats r e names g = record {
   gives = (g.0, stats s t ps n r e g.1);
   alike = same-pins s t ps e (stats-pins s r t g.1);
 }
-step-reowned s t ps o n Compact r e names g = absurd names
+step-reowned s t ps o n Compact r e names g = record {
+  pins = ps;
+  gives = (g.0, compacts s t ps n r g.1);
+  alike = same-pins s t ps e (compact-aside s r t g.1).0;
+}
 step-reowned s t ps o n Crash r e names g = absurd names
 step-reowned s t ps o n Open r e names g = absurd names

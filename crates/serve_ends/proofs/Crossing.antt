@@ -35,6 +35,7 @@ use Rattle.screen_index.specs.contracts.index.ScreenIndex.{the_row as index_row}
 use Rattle.store_core.specs.contracts.kept.KeptEntries.{the_row as entries_row}
 use Rattle.store_core.specs.contracts.record.Record.{the_row as record_row}
 use Rattle.store_core.specs.contracts.store.Store.{the_row as memory_row}
+use Rattle.store_disk.specs.contracts.copy.Copying.{the_row as copying_row}
 use Rattle.store_disk.specs.contracts.store.Store.{the_row as store_row}
 use Rattle.hall.specs.contracts.hall.Hall as hall
 use Rattle.hall.specs.contracts.hall.Hall.{the_row as hall_row}
@@ -84,10 +85,14 @@ pair-send D g d =
     let o = other-send D g d in
     search (sendable, crosses) depth 40
 
+copying-send : IsSend copying_row
+copying-send = search (sendable, crosses) depth 40
+
 pub store-send : (D : RattleType) (g : Ghosts D.Denot) → IsSend D → IsSend (store_row D g)
 store-send D g d =
     let m = memory-send in
     let p = pair-send D g d in
+    let c = copying-send in
     search (sendable, crosses) depth 40
 
 pub kept-send : (D : RattleType) (g : Ghosts D.Denot) → IsSend D → IsSend (kept_row D g)
