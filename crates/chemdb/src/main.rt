@@ -10,6 +10,7 @@ mod tests;
 use crate::files::script_ends;
 use chem_shell::{End, Outcome, Plan, PlanFault, Verb, chemdb, plan, status, word_fault};
 use disk_edge::{Disk, FileDisk};
+use disk_pair::{Which, which_is_read};
 use io_edge::{StdSink, StdSource};
 use std::alloc::{AllocError, Global};
 use std::env;
@@ -91,7 +92,7 @@ where
 }
 
 /// The ends are the scripts that the words name, and their replies, or else standard input and output. Where the store is
-/// damaged, it says from which byte on.
+/// damaged, it says which file is, and from which byte on.
 fn serve<R: AllocGlobal + Files<File = File> + Input + Print + Eprint + Threads + Wait + Sync>(
     rt: &R,
     alloc: Global,
@@ -109,11 +110,11 @@ where
     match plan.command {
         Verb::Serve => {
             let ends = script_ends(rt, alloc, &plan.scripts)?;
-            Ok(status_told(rt, chemdb(rt, alloc, words, a, b, ends)))
+            Ok(status_told(rt, chemdb(rt, alloc, words, a, b, ends), plan.file))
         }
         _ => {
             let ends = ends(rt, alloc, plan.ends)?;
-            Ok(status_told(rt, chemdb(rt, alloc, words, a, b, ends)))
+            Ok(status_told(rt, chemdb(rt, alloc, words, a, b, ends), plan.file))
         }
     }
 }
@@ -138,13 +139,30 @@ fn disks<R: Files<File = File>>(
     Ok((a, b))
 }
 
-/// The overall status of an outcome. Where the store is damaged, it prints from which byte on.
-fn status_told<R: Eprint, D: Drop, S: Drop, K: Drop>(rt: &R, outcome: Outcome<D, S, K>) -> u8 {
-    if outcome.status == status::DAMAGED {
-        let place = outcome.place;
-        let _ = eprintln!(rt; "chemdb: the file is damaged from byte {place} on");
+/// The overall status of an outcome. Where the store is damaged, it prints which of its files is, and from which byte
+/// on.
+fn status_told<R: Eprint, D: Disk + Drop, S: Drop, K: Drop>(
+    rt: &R,
+    outcome: Outcome<D, S, K>,
+    file: Option<&str>,
+) -> u8 {
+    let Outcome {
+        a,
+        b,
+        status,
+        place,
+        ..
+    } = outcome;
+    let (mut a, mut b) = (a, b);
+    if status == status::DAMAGED {
+        let file = file.unwrap_or("the store");
+        let ending = match which_is_read(&mut a, &mut b) {
+            Ok(Some(Which::Second)) => ".2",
+            _ => "",
+        };
+        let _ = eprintln!(rt; "chemdb: {file}{ending} is damaged from byte {place} on");
     }
-    outcome.status
+    status
 }
 
 /// Prints why the words ask for nothing, and what they may be. The status says it too, where standard error is gone.

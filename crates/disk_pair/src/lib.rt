@@ -4,7 +4,7 @@
 //!
 //! At every moment of every call a crash leaves two disks that open to a history that may be there: that from before
 //! the call, with the commit in doubt or without; the copy whose finish is in doubt; or what the call makes. It knows
-//! payloads alone, and decodes none. It stands on `journal_core` and `compact_core`; no command copies yet.
+//! payloads alone, and decodes none: what a copy is made of is said by the crates above.
 #![tactic(auto)]
 
 mod choice;
@@ -20,5 +20,5 @@ mod tests;
 pub use choice::Which;
 pub use fault::PutFault;
 pub use law::{a_crash_leaves_one, a_pair_opens_one_way};
-pub use opening::{Picked, load};
+pub use opening::{Picked, load, which_is_read};
 pub use pair::Pair;

@@ -103,8 +103,11 @@ fn open_picked<D: Disk>(
     }
 }
 
-// Syncs both disks, and says which is read.
-fn which_is_read<D: Disk>(a: &mut D, b: &mut D) -> Result<Option<Which>, DiskFail>
+/// Syncs both disks, and says which of them a load reads; `None` where neither is open. Nothing is written. Takes no
+/// memory.
+///
+/// `Failed`: a disk failed, and counted a fault.
+pub fn which_is_read<D: Disk>(a: &mut D, b: &mut D) -> Result<Option<Which>, DiskFail>
     ensures chosen { IfOk result (λ which. IfTold (D.model.content a.old)
         (λ x. IfTold (D.model.content b.old) (λ y. Chosen which x y))) }
     ensures synced_a { IfOk result (λ _. IfTold (D.model.content a.new)
