@@ -14,7 +14,7 @@ use snap_registry::Pin;
 use store_core::{Page, Service};
 
 /// The most pages that are searched together.
-pub const MOST_PAGES: u32 = 16;
+pub const MOST_PAGES: u32 = 64;
 
 /// What was found in pages that were fetched one behind the other: the identifiers of those records that the pattern
 /// matches, in order, how many records were tried, from where the search goes on, `None` at its end, and why no more

@@ -106,7 +106,7 @@ impl Search {
         Search::start_batched(alloc, service, pattern, workers, page, 0)
     }
 
-    /// The same, for batches of at most this many pages as well, 0 to 16.
+    /// The same, for batches of at most this many pages as well, 0 to 64.
     pub fn start_batched<S: Service>(
         alloc: Global,
         service: &mut S,
