@@ -1,6 +1,7 @@
 //! A search from its pin to its end.
 ghost use Rattle.std.specs.Prelude.{◌≤◌, IfOk};
 ghost use Rattle.par_search.specs.Searches.{HasBegun};
+ghost use Rattle.par_search.specs.declared.batch.TheConstants.{MOST_PAGES};
 ghost use Rattle.shell_lang.specs.Reply.{reply_of};
 ghost use Rattle.smarts_parse.specs.Pattern.{pattern_of};
 ghost use Rattle.smarts_parse.specs.Sound.{IsSoundPattern};
@@ -30,7 +31,7 @@ pub fn begin<S: Service>(
     requires few_workers { settings.now.workers ≤ 16 }
     requires some { 1 ≤ settings.now.page }
     requires few { settings.now.page ≤ 256 }
-    requires few_pages { most ≤ 16 }
+    requires few_pages { most ≤ MOST_PAGES }
     requires sound { IsSoundPattern (pattern_of pattern) }
     ensures begins { Begins (Uses S.Service service.old service.new) (S.worn service.new) result }
     ensures begun { IfOk result (λ walk. HasBegun pattern settings.now.page walk.search) }

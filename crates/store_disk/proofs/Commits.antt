@@ -11,7 +11,7 @@ use Rattle.disk_pair.specs.declared.fault.PutFault.TheVariants as put
 use Rattle.store_core.specs.Calls.{Calls}
 use Rattle.store_core.specs.Replies.{change_of, commit_calls}
 use Rattle.store_core.specs.Stored as memory
-use Rattle.store_core.specs.Stored.{IsServing, StoreTerm as Memory, served}
+use Rattle.store_core.specs.Stored.{IsServing, Served, StoreTerm as Memory, served}
 use Rattle.store_core.specs.Prepared.{IsWhy}
 use Rattle.store_core.specs.declared.words.Change.{Change as Asked}
 use Rattle.store_core.specs.declared.words.CommitFault.{CommitFault}
@@ -303,6 +303,28 @@ commit-serves law old new s c may h stands =
       sound = sound-after law s (committed s c) 0 (event.Commit c) r gives h.sound;
       serves = h.serves;
       stands = stands;
+    }
+
+-- where no commit is made memory is ready as before, and the journal at its place
+pub refused-ready : {D : Type 0} (old new : Memory) (was now : Paired D) (copy copies : Option CopyTerm) → copies ≡ copy
+    → progress_of now.other ≡ progress_of was.other → now.journal.header ≡ was.journal.header
+    → now.journal.place ≡ was.journal.place → ((s : Served) → memory.StandsFor old s → memory.StandsFor new s)
+    → new.version ≡ old.version → IsReady old was copy → IsReady new now copies
+refused-ready old new was now copy copies is progress header place keeps version h =
+    let s : State = h.stands.0 in
+    let serving = h.stands.1 in
+    record {
+      stands = (
+        s,
+        record { sound = serving.sound; serves = serving.serves; stands = keeps (served s) serving.stands },
+        subst (HasCopy s.history s.copy) (sym is) h.stands.2,
+      );
+      few = omega (arith, h.few, version);
+      bases = omega (arith, h.bases, ap (λ (k : Header). k.base_count) header);
+      place = omega (arith, place, h.place, version, ap (λ (k : Header). k.base_count) header);
+      copying = subst (λ n. Follow n copies (progress_of now.other)) (sym version)
+          (subst (λ (o : Option CopyTerm). Follow old.version o (progress_of now.other)) (sym is)
+          (subst (Follow old.version copy) (sym progress) h.copying));
     }
 
 pub commit-ready : {D : Type 0} → RunsStaySound → RebasesGrow → (old new : Memory) (was now : Paired D)

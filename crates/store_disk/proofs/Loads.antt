@@ -180,7 +180,7 @@ module _ {D : Type 0} (model : DiskModel D) (old : Standing D) (opening : IsOpen
               → IsLoaded model memory limit old new
           loaded rests = record {
             state = r.state;
-            at = r.at;
+            serving = r.serving;
             opened = r.opened;
             header = same-header ∙ ap as-written (sym r.history);
             opens = λ l is. subst (λ (h : History). OpensAs (history_of old.header.generation h) l) (sym r.history)
@@ -220,7 +220,7 @@ module _ {D : Type 0} (model : DiskModel D) (old : Standing D) (opening : IsOpen
                 length-map found (λ one. entry.entry_of one.1),
                 count,
                 opening.left,
-                r.at.stands.version,
+                r.serving.stands.version,
                 ap head r.history,
                 length-map (changes_of log) told,
               )

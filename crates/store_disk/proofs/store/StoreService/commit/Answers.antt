@@ -1,9 +1,9 @@
-use Rattle.std.proofs.Common.{◌≤◌, ◌∙◌, ap, arith, length, List, option_map, subst, sym, ℕ}
+use Rattle.std.proofs.Common.{◌≤◌, ◌∙◌, ap, arith, length, List, option_map, refl, subst, sym, ℕ}
 use Rattle.journal_core.specs.Records.{IsShort}
 use Rattle.store_core.specs.Replies.{change_of}
 use Rattle.store_core.specs.Stored.{served}
 use Rattle.store_disk.specs.Copies.{copy_of, queued}
-use Rattle.store_disk.proofs.Commits.{commit-ready, done, faulted, refused-result}
+use Rattle.store_disk.proofs.Commits.{commit-ready, done, faulted, refused-ready, refused-result}
 use Rattle.store_disk.proofs.Payloads.{some-payload}
 use Rattle.store_disk.proofs.store.StoreService.commit.Goals as goal
 
@@ -57,6 +57,20 @@ returns-in-Err-clause-call g c =
     c.append.ensures.b c.append.ensures.header c.append.ensures.progress c.deref.result.now
     (c.deref.ensures.value ∙ c.in_ok-payload.ensures.payload) c.append.ensures.moments
     stands c.reserve.ensures.same c.in-Err.fault c.in-Err.ensures.gives c.in-Err.ensures.cause)
+
+pub invariant_of-self-in_err-prepare : goal.invariant_of-self-in_err-prepare
+invariant_of-self-in_err-prepare g c =
+    refused-ready c.self.inside.memory c.prepare.new.self c.self.inside.pair c.self.inside.pair _ _
+    c.reserve.ensures.same refl refl refl c.prepare.ensures.stands c.prepare.ensures.version c.self.invariant
+
+pub invariant_of-self-in-Err : goal.invariant_of-self-in-Err
+invariant_of-self-in-Err g c =
+    refused-ready c.self.inside.memory c.prepare.new.self c.self.inside.pair c.append.new.self _ _
+    c.reserve.ensures.same c.append.ensures.progress c.append.ensures.header c.in-Err.ensures.stays
+    c.prepare.ensures.stands c.prepare.ensures.version c.self.invariant
+
+pub returns-in-Err-clause-held : goal.returns-in-Err-clause-held
+returns-in-Err-clause-held g c = rw (sym c.self.view_is, c.prepare.ensures.pins) (λ slot version. ((λ h. h), λ h. h))
 
 pub invariant_of-self-2 : goal.invariant_of-self-2
 invariant_of-self-2 g c =
