@@ -26,8 +26,8 @@ impl<V> Model for Entries<V> {
     ghost Value = { Row V };
 
     ghost view = { λ e. record {
-        entries = e.older.items ++ option_to_list e.newest;
-        room = deque_capacity e.older + 1
+      entries = e.older.items ++ option_to_list e.newest;
+      room = deque_capacity e.older + 1;
     } };
 }
 
