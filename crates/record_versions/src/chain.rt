@@ -106,7 +106,8 @@ fn before<V>(entries: &Entries<V>, version: u32) -> usize
     requires { AllPairs (λ k l. k.version < l.version) entries.now.entries }
     ensures within { result ≤ length entries.now.entries }
     ensures before { AllWithin (λ k. k.version < version) entries.now.entries 0 result }
-    ensures behind { AllWithin (λ k. version ≤ k.version) entries.now.entries result (length entries.now.entries) }
+    ensures behind { AllWithin (λ k. version ≤ k.version) entries.now.entries result
+        (length entries.now.entries) }
 {
     match version.checked_sub(1) {
         Some(last) => entries.up_to(last),

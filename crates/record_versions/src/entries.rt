@@ -1,5 +1,5 @@
-//! Entries in order, the newest of which lies apart, so that one alone takes no block of memory. The older ones lie in a
-//! ring, so that the oldest leave without moving the others.
+//! Entries in order, the newest of which lies apart, so that one alone takes no block of memory. The older ones lie in
+//! a ring, so that the oldest leave without moving the others.
 ghost use Rattle.std.specs.Prelude.{◌≡◌, ◌+◌, ◌++◌, ◌<◌, ◌≤◌, ◌↔◌, [], ◌∷◌, IfSome, IsSome, IfNone, OnOk, OnSome, length, slice_index_or};
 ghost use Rattle.std.specs.List.{AllPairs, AllWithin, remove};
 
@@ -106,7 +106,8 @@ impl<V> Entries<V> {
         requires { AllPairs (λ k l. k.version < l.version) self.now.entries }
         ensures within { result ≤ length self.now.entries }
         ensures before { AllWithin (λ k. k.version ≤ version) self.now.entries 0 result }
-        ensures behind { AllWithin (λ k. version < k.version) self.now.entries result (length self.now.entries) }
+        ensures behind { AllWithin (λ k. version < k.version) self.now.entries result
+            (length self.now.entries) }
     {
         match &self.newest {
             Some(newest) if newest.version <= version => self.older.len() + 1,
@@ -140,7 +141,8 @@ fn older_up_to<V>(older: &VecDeque<Entry<V>>, version: u32) -> usize
     requires { AllPairs (λ k l. k.version < l.version) older.now.items }
     ensures within { result ≤ length older.now.items }
     ensures before { AllWithin (λ k. k.version ≤ version) older.now.items 0 result }
-    ensures behind { AllWithin (λ k. version < k.version) older.now.items result (length older.now.items) }
+    ensures behind { AllWithin (λ k. version < k.version) older.now.items result
+        (length older.now.items) }
 {
     older.partition_point(|entry| entry.version <= version)
 }
