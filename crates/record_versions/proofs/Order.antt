@@ -1,7 +1,7 @@
 -- The entries of one identifier by their places: the latest one, those that are read, and one taken out.
-use Rattle.std.proofs.Common.{◌≡◌, ◌≢◌, ◌+◌, ◌-◌, ◌<◌, ◌≤◌, ◌==◌, ◌∙◌, All, ap, arith, Bor, cond, Contains, eq-eqb, false, filter, get_or, inl, inr, IfSome, IsSome, length, List, [], ◌∷◌, MatchOption, nat_le, None, not, option_copied, Option, refl, Some, subst, suc, sym, true, zero, ℕ}
+use Rattle.std.proofs.Common.{◌≡◌, ◌≢◌, ◌+◌, ◌++◌, ◌-◌, ◌<◌, ◌≤◌, ◌==◌, ◌∙◌, All, ap, arith, Bor, cond, Contains, eq-eqb, false, filter, get_or, inl, inr, IfSome, IsSome, length, List, [], ◌∷◌, MatchOption, nat_le, None, not, option_copied, Option, refl, Some, subst, suc, sym, true, zero, ℕ}
 use Rattle.std.proofs.lemmas.Bool.{cases_lt, ne_eqb, true≢false}
-use Rattle.std.proofs.lemmas.List.{get_or_default}
+use Rattle.std.proofs.lemmas.List.{get_or_default, get_or_push, length_push}
 use Rattle.std.proofs.lemmas.List.Sorted.{IsPartitionedBy-leb}
 use Rattle.std.specs.List.{AllPairs, AllWithin, remove}
 use Rattle.std.specs.List.Sorted.{IsNonDecreasingBy, IsPartitionedBy}
@@ -26,6 +26,19 @@ module _ {V : Type 0} where
                 let same : i ≡ j = omega (arith, le, ge) in
                 omega (arith, ap (λ n. (get_or ks n d).version) same)
           ]
+
+  -- all are up to a version, where the last one is
+  pub up-to-last : (version : ℕ) (ks : List (Entry V)) (last : Entry V) → Ascends (ks ++ last ∷ [])
+      → last.version ≤ version → AllWithin (λ k. k.version ≤ version) (ks ++ last ∷ []) 0 (length ks + 1)
+  up-to-last version ks last up late i d low high =
+      let long = length_push ks last in
+      let end = ap (λ (k : Entry V). k.version) (get_or_push ks last d (length ks) refl) in
+      elim (cases_lt i (length ks)) [
+        | inl lt ↦ let h = up i (length ks) d lt (omega (arith, long)) in omega (arith, h, end, late)
+        | inr ge ↦
+            let same : i ≡ length ks = omega (arith, ge, high) in
+            omega (arith, ap (λ n. (get_or (ks ++ last ∷ []) n d).version) same, end, late)
+      ]
 
   -- the last of those up to a version
   pub latest-index : (version i : ℕ) (ks : List (Entry V)) (d : Entry V) → i < length ks → Ascends ks

@@ -1,11 +1,11 @@
-//! The entries of one identifier, oldest first. They lie in a ring, so that the oldest leave without moving the others.
+//! The entries of one identifier, oldest first.
 ghost use Rattle.std.specs.Prelude.{◌≡◌, ◌≢◌, ◌+◌, ◌++◌, ◌<◌, ◌≤◌, [], ◌∷◌, All, Contains, MatchOption, None, OnOk, Some, filter, length, option_copied, slice_index_or, ℕ};
 ghost use Rattle.std.specs.List.{AllPairs, AllWithin};
 ghost use Rattle.record_versions.specs.declared.chain.Entry.{Entry};
 ghost use Rattle.record_versions.specs.Entries.{IsLatest, IsLeastUnread, IsReadBefore, is_other};
 
+use crate::entries::Entries;
 use std::alloc::{AllocError, Global};
-use std::collections::VecDeque;
 use std::marker::Model;
 
 /// A value with the version that made it.
@@ -18,20 +18,19 @@ pub struct Entry<V> {
 /// Contracts see the entries, and for how many there is room.
 #[derive(Drop)]
 pub struct Chain<V> {
-    entries: VecDeque<Entry<V>>,
+    entries: Entries<V>,
 }
 
 impl<V> Model for Chain<V> {
     ghost use Rattle.std.specs.Prelude.{◌<◌};
     ghost use Rattle.std.specs.List.{AllPairs};
     ghost use Rattle.record_versions.specs.Rows.{Row};
-    ghost use Rattle.std.specs.VecDeque.{deque_capacity};
 
     ghost Value = { Row V };
 
-    ghost view = { λ c. record { entries = c.entries.items; room = deque_capacity c.entries } };
+    ghost view = { λ c. c.entries };
 
-    ghost invariant = { λ c. AllPairs (λ k l. k.version < l.version) c.entries.items };
+    ghost invariant = { λ c. AllPairs (λ k l. k.version < l.version) c.entries.entries };
 }
 
 impl<V: Drop> Chain<V> {
@@ -40,7 +39,7 @@ impl<V: Drop> Chain<V> {
         ensures { result.entries ≡ [] }
     {
         Chain {
-            entries: VecDeque::new(alloc),
+            entries: Entries::new(alloc),
         }
     }
 
@@ -50,7 +49,7 @@ impl<V: Drop> Chain<V> {
         ensures grows { self.old.room ≤ self.new.room }
         ensures room { OnOk result (length self.new.entries < self.new.room) }
     {
-        self.entries.reserve(1)
+        self.entries.reserve_one()
     }
 
     /// One entry more, later than the others.
@@ -59,7 +58,7 @@ impl<V: Drop> Chain<V> {
         requires later { All (λ k. k.version < version) self.old.entries }
         ensures { self.new.entries ≡ self.old.entries ++ record { version = version; value = value } ∷ [] }
     {
-        self.entries.push_back_reserved(Entry { version, value });
+        self.entries.push_reserved(Entry { version, value });
     }
 
     /// The latest entry that is not after a version.
@@ -67,7 +66,7 @@ impl<V: Drop> Chain<V> {
         ensures latest { IsLatest version self.now.entries (option_copied result) }
         ensures ascending { AllPairs (λ k l. k.version < l.version) self.now.entries }
     {
-        let place = up_to(&self.entries, version);
+        let place = self.entries.up_to(version);
         self.entries.get(place.checked_sub(1)?)
     }
 
@@ -80,7 +79,7 @@ impl<V: Drop> Chain<V> {
         ensures fewer { MatchOption result (self.new.entries ≡ self.old.entries)
             (λ _. length self.new.entries + 1 ≡ length self.old.entries) }
     {
-        let place = up_to(&self.entries, version).checked_sub(1)?;
+        let place = self.entries.up_to(version).checked_sub(1)?;
         if self.entries[place].version != version {
             return None;
         }
@@ -102,34 +101,25 @@ impl<V: Drop> Chain<V> {
     }
 }
 
-// How many entries are not after a version.
-fn up_to<V>(entries: &VecDeque<Entry<V>>, version: u32) -> usize
-    requires { AllPairs (λ k l. k.version < l.version) entries.now.items }
-    ensures within { result ≤ length entries.now.items }
-    ensures before { AllWithin (λ k. k.version ≤ version) entries.now.items 0 result }
-    ensures behind { AllWithin (λ k. version < k.version) entries.now.items result (length entries.now.items) }
-{
-    entries.partition_point(|entry| entry.version <= version)
-}
-
 // How many entries are before a version.
-fn before<V>(entries: &VecDeque<Entry<V>>, version: u32) -> usize
-    requires { AllPairs (λ k l. k.version < l.version) entries.now.items }
-    ensures within { result ≤ length entries.now.items }
-    ensures before { AllWithin (λ k. k.version < version) entries.now.items 0 result }
-    ensures behind { AllWithin (λ k. version ≤ k.version) entries.now.items result (length entries.now.items) }
+fn before<V>(entries: &Entries<V>, version: u32) -> usize
+    requires { AllPairs (λ k l. k.version < l.version) entries.now.entries }
+    ensures within { result ≤ length entries.now.entries }
+    ensures before { AllWithin (λ k. k.version < version) entries.now.entries 0 result }
+    ensures behind { AllWithin (λ k. version ≤ k.version) entries.now.entries result
+        (length entries.now.entries) }
 {
     match version.checked_sub(1) {
-        Some(last) => up_to(entries, last),
+        Some(last) => entries.up_to(last),
         None => 0,
     }
 }
 
 // The version of the entry at a place, where there is one.
-fn version_at<V>(entries: &VecDeque<Entry<V>>, place: usize) -> Option<u32>
-    ensures { MatchOption result (length entries.now.items ≤ place)
-        (λ v. (place < length entries.now.items)
-        × ((d : Entry V) → v ≡ (slice_index_or entries.now.items place d).version)) }
+fn version_at<V>(entries: &Entries<V>, place: usize) -> Option<u32>
+    ensures { MatchOption result (length entries.now.entries ≤ place)
+        (λ v. (place < length entries.now.entries)
+        × ((d : Entry V) → v ≡ (slice_index_or entries.now.entries place d).version)) }
 {
     Some(entries.get(place)?.version)
 }

@@ -6,6 +6,7 @@
 
 mod chain;
 mod chains;
+mod entries;
 mod steps;
 
 pub use chains::Chains;

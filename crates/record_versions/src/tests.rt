@@ -64,3 +64,33 @@ fn an_entry_is_read_until_the_next_and_dead_where_nobody_reads_it(
     assert_eq!(rt; chains.kept(), 2);
     Ok(())
 }
+
+#[test]
+fn one_more_follows_where_the_newest_and_the_oldest_were_taken(
+    rt: HostRuntime,
+) -> Result<(), Fail> {
+    let mut chains = Chains::new(rt.alloc());
+    chains.reserve(4)?;
+    chains.add(4, 1, 'a');
+    chains.reserve(4)?;
+    chains.add(4, 2, 'b');
+    chains.reserve(4)?;
+    chains.add(4, 5, 'c');
+    assert_eq!(rt; chains.take(4, 5), Some('c'));
+    assert_eq!(rt; chains.take(4, 1), Some('a'));
+    assert_eq!(rt; look(&chains, 4, 9), Some((2, 'b')));
+    chains.reserve(4)?;
+    chains.add(4, 6, 'd');
+    let rows = [
+        (1, None),
+        (5, Some((2, 'b'))),
+        (6, Some((6, 'd'))),
+        (9, Some((6, 'd'))),
+    ];
+    for (version, entry) in rows {
+        assert_eq!(rt; look(&chains, 4, version), entry, "at {version}");
+    }
+    assert_eq!(rt; chains.dead(&[6]), Some((4, 2)));
+    assert_eq!(rt; chains.kept(), 2);
+    Ok(())
+}

@@ -7,18 +7,18 @@ use Rattle.record_versions.proofs.chain.Chain.unread_from.Goals as goal
 
 pub returns-then-not-is_read : goal.returns-then-not-is_read
 returns-then-not-is_read g c =
-    let items = c.self.inside.entries.items in
+    let items = c.self.inside.entries.entries in
     let ks = c.args.self.now.entries in
     let live = c.args.live.now in
     let place = c.loop-place.place in
     let x = c.index.result.now in
     let next = c.version_at.result in
     let same = ap (λ (r : Row g.row.V.Denot). r.entries) c.self.view_is in
-    let less : place < length ks = omega (arith, c.self.inside.entries.ok.0, ap (λ l. length l) same) in
+    let less : place < length ks = omega (arith, ap (λ l. length l) same) in
     let up : Ascends ks = subst Ascends same c.self.invariant in
     let is : x ≡ get_or ks place x = c.index.ensures ∙ ap (λ l. get_or l place x) same in
     let no : c.is_read.result ≡ false = search rules in
-    let behind = c.before-place.ensures.behind place x (omega arith) (omega (arith, c.self.inside.entries.ok.0)) in
+    let behind = c.before-place.ensures.behind place x (omega arith) (omega arith) in
     let late : c.args.from ≤ (get_or ks place x).version = omega (
       arith,
       behind,
@@ -32,14 +32,14 @@ returns-then-not-is_read g c =
 
 pub loop-place-preserved : goal.loop-place-preserved
 loop-place-preserved g c =
-    let items = c.self.inside.entries.items in
+    let items = c.self.inside.entries.entries in
     let ks = c.args.self.now.entries in
     let live = c.args.live.now in
     let place = c.loop-place.place in
     let x = c.index.result.now in
     let next = c.version_at.result in
     let same = ap (λ (r : Row g.row.V.Denot). r.entries) c.self.view_is in
-    let less : place < length ks = omega (arith, c.self.inside.entries.ok.0, ap (λ l. length l) same) in
+    let less : place < length ks = omega (arith, ap (λ l. length l) same) in
     let up : Ascends ks = subst Ascends same c.self.invariant in
     let is : x ≡ get_or ks place x = c.index.ensures ∙ ap (λ l. get_or l place x) same in
     let yes : c.is_read.result ≡ true = search rules in
@@ -53,4 +53,4 @@ pub returns : goal.returns
 returns g c =
     let same = ap (λ (r : Row g.row.V.Denot). r.entries) c.self.view_is in
     all-read c.args.live.now c.args.from c.loop-place.place c.args.self.now.entries
-    (omega (arith, c.self.inside.entries.ok.0, ap (λ l. length l) same)) c.loop-place.invariant
+    (omega (arith, ap (λ l. length l) same)) c.loop-place.invariant
