@@ -4,7 +4,6 @@ use Rattle.std.proofs.Common.{◌≡◌, ◌==◌, ◌↔◌, ◌++◌, ◌∙�
 use Rattle.std.proofs.lemmas.List.{map-append}
 use Rattle.store_machine.specs.History.{head}
 use Rattle.store_machine.specs.Kept.{IsNeeded, copied}
-use Rattle.store_machine.proofs.Pins.{compact-aside}
 use Rattle.store_machine.specs.Machine.{AreNeeded, Becomes, CommitGives, CompactGives, DoubtAfter, EndsDoubts, FetchGives, Gives, GivesUp, LookGives, PruneGives, StatsGives, copying, pin_in, replaced}
 use Rattle.store_machine.specs.Owners.{unowned}
 use Rattle.store_machine.specs.declared.machine.Change.{Change}
@@ -220,6 +219,19 @@ look-pins s id (reply.Looked status) t g = ap (λ (x : State). x.pins) g.1
 look-pins s id reply.NoMemory t g = ap (λ (x : State). x.pins) g
 look-pins s id _ t g = absurd g
 
+given-up-pins : (s : State) (doubt : Bool) (t : State) → GivesUp s doubt t → t.pins ≡ s.pins
+given-up-pins s true t g = ap (λ (x : State). x.pins) g.2
+given-up-pins s false t g = ap (λ (x : State). x.pins) g.1
+
+compact-pins : (s : State) (r : Reply) (t : State) → CompactGives s r t → t.pins ≡ s.pins
+compact-pins s reply.Last t g = ap (λ (x : State). x.pins) g.2
+compact-pins s (reply.More left) t (inl g) = ap (λ (x : State). x.pins) g.3
+compact-pins s (reply.More left) t (inr g) = ap (λ (x : State). x.pins) g.5
+compact-pins s (reply.Done generation) t g = ap (λ (x : State). x.pins) g.3
+compact-pins s (reply.DiskFault doubt) t g = given-up-pins s doubt t g.1
+compact-pins s reply.NoMemory t g = ap (λ (x : State). x.pins) g.2
+compact-pins s _ t g = absurd g
+
 stats-pins : (s : State) (r : Reply) (t : State) → StatsGives s r t → t.pins ≡ s.pins
 stats-pins s (reply.Counted version live withdrawn kept pins) t g = ap (λ (x : State). x.pins) g.5
 stats-pins s _ t g = absurd g
@@ -306,7 +318,7 @@ step-reowned s t ps o n Stats r e names g = record {
 step-reowned s t ps o n Compact r e names g = record {
   pins = ps;
   gives = (g.0, compacts s t ps n r g.1);
-  alike = same-pins s t ps e (compact-aside s r t g.1).0;
+  alike = same-pins s t ps e (compact-pins s r t g.1);
 }
 step-reowned s t ps o n Crash r e names g = absurd names
 step-reowned s t ps o n Open r e names g = absurd names
