@@ -57,7 +57,7 @@ fn a_store_is_compacted(rt: HostRuntime) -> Result<(), Fail> {
         put_by(&third),
         b"compacting 2\ncompacting 0\ncompacted 2\nstats version 2 live 2 withdrawn 0 kept 2 pins 0\n".as_slice()
     );
-    assert_eq!(rt; &third.a.bytes()[..12], b"ZCHEMDB2\x02\0\0\0".as_slice());
+    assert!(rt; third.a.bytes().starts_with(b"ZCHEMDB2\x02\0\0\0"));
     // a copy that is cut
     let cut = run(&rt, alloc, ONE_COMMIT, &COMPACTED[..36], "show 1\n")?;
     assert_eq!(rt; cut.status, 7);
