@@ -73,6 +73,21 @@ one_begins parts g m words classes block all graph one truths first i x l get ma
       ],
     )
 
+-- all at which an embedding begins are known
+pub all_begin : (parts : Parts) (g : GraphTerm) (m : Molecule) (words : List ℕ) (classes block all found : ℕ)
+    → 0 < length g.atoms → AreTruthsIn parts g m words → AreFirst m words block all
+    → ((i : ℕ) → i < 64
+    → bit_at found i ≡ 1 ↔ (bit_at all i ≡ 1) × CanComplete parts g m ((64 * block + i) ∷ []))
+    → AreBeginnings parts g m classes block found
+all_begin parts g m words classes block all found some truths first h i x l get may =
+    let within : 64 * block + i < length m.atoms = slice_get_within m.atoms (64 * block + i) x get in (
+      λ t. ((h i l).0 t).1,
+      λ w. elim (cases_eq (bit_at all i) 1) [
+        | inl is ↦ (h i l).1 (is, w)
+        | inr none ↦ absurd (not_first parts g m words block all i some truths first l within none w)
+      ],
+    )
+
 -- none is asked yet, and no embedding begins at the atoms that are left out
 pub asked_near : (parts : Parts) (g : GraphTerm) (m : Molecule) (words : List ℕ) (classes block all near : ℕ)
     → 0 < length g.atoms → AreTruthsIn parts g m words → AreFirst m words block all

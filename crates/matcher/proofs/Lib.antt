@@ -25,3 +25,4 @@ pub mod Rings
 pub mod Groups
 pub mod Removals
 pub mod Seconds
+pub mod Pairs

@@ -1,12 +1,13 @@
 -- At which atoms the expressions of a graph are true, as bits of words.
-use Rattle.std.proofs.Common.{◌≡◌, ◌↔◌, ◌∙◌, ◌+◌, ◌-◌, ◌*◌, ◌/◌, ◌%◌, ◌^◌, ◌<◌, ◌≤◌, ℕ, Bool, true, List, inl, inr, bit_and, bit_or, get_or, length, slice_get, slice_index, set, Some, All, ap, arith, subst, sym, w64}
+use Rattle.std.proofs.Common.{◌≡◌, ◌↔◌, ◌∙◌, ◌+◌, ◌-◌, ◌*◌, ◌/◌, ◌%◌, ◌^◌, ◌<◌, ◌≤◌, ℕ, Bool, false, true, List, inl, inr, bit_and, bit_or, get_or, length, min, slice_get, slice_index, set, suc, Some, All, ap, arith, refl, subst, sym, w64}
 use Rattle.std.specs.Int.{bit_at}
-use Rattle.std.specs.Int.{bit_not}
-use Rattle.std.proofs.lemmas.Nat.Bits.{bit_at-lt, bit_at-zero, bit_at_and, bit_at_not, bit_at_or, bit_at_ones, bit_at_ones_above, bit_at_set_other, bit_at_set_same}
+use Rattle.std.specs.Int.{bit_not, from_bool}
+use Rattle.std.proofs.lemmas.Nat.Bits.{bit_at-lt, bit_at-zero, bit_at_and, bit_at_not, bit_at_or, bit_at-suc, bit_at_above, bit_at_lowest, bit_at_ones, bit_at_ones_above}
 use Rattle.std.proofs.Math.Nat.{mod-eq_of_lt}
 use Rattle.std.proofs.Math.Pow.{pow-lt}
-use Rattle.std.proofs.lemmas.Bool.{cases_eq, cases_lt}
+use Rattle.std.proofs.lemmas.Bool.{cases_eq, cases_lt, false≢true}
 use Rattle.std.proofs.lemmas.List.{get_or-set_other, get_or-set_same}
+use Rattle.std.proofs.lemmas.Nat.{and_mask}
 use Rattle.std.proofs.lemmas.Option.{get_or_from_slice_get, same_Some, slice_get_within, slice_get-get_or}
 use Rattle.chem_core.specs.declared.mol.Atom.{Atom}
 use Rattle.chem_core.specs.Molecule.{Molecule}
@@ -91,66 +92,96 @@ truth_or parts m e f block within a b h k i l =
       ],
     )
 
--- the bits below one place are so, and those from there on are not set
-pub record IsBegun (parts : Parts) (m : Molecule) (e : Term AtomPrim) (block n word : ℕ) : Type 0 where
-  pub done : (i : ℕ) → i < n → bit_at word i ≡ 1 ↔ AtomTrue parts e m (64 * block + i)
-  pub rest : (i : ℕ) → n ≤ i → bit_at word i ≡ 0
+-- a `bool` as a bit
+pub bool_bit : (b : Bool) (bit : ℕ) → bit ≡ from_bool b → (bit < 2) × ((bit ≡ 1) ↔ (b ≡ true))
+bool_bit true bit is = (omega arith, (λ _. refl, λ _. is))
+bool_bit false bit is = (omega arith, (λ one. absurd (omega arith), λ no. absurd (false≢true no)))
 
-pub asks_none : (parts : Parts) (m : Molecule) (e : Term AtomPrim) (block : ℕ) → IsBegun parts m e block 0 0
-asks_none parts m e block = record {
-  done = λ i l. absurd (omega arith);
-  rest = λ i l. bit_at-zero i;
-}
+-- the lowest bit of a word is new, and the others are those of a second one, one place up
+pub lowest_new : (word bit : ℕ) → bit < 2 → bit_at (bit_or (word * 2 % 2 ^ 64) bit) 0 ≡ bit
+lowest_new word bit low =
+    let both = bit_at_or (word * 2 % 2 ^ 64) bit 0 in
+    let one = bit_at_lowest (word * 2 % 2 ^ 64) in
+    let two = bit_at_lowest bit in
+    omega arith
 
-pub ask_false : (parts : Parts) (m : Molecule) (e : Term AtomPrim) (block n word : ℕ)
-    → (AtomTrue parts e m (64 * block + n) → ⊥) → IsBegun parts m e block n word
-    → IsBegun parts m e block (n + 1) word
-ask_false parts m e block n word none h = record {
-  done = λ i l. elim (cases_eq i n) [
-    | inl same ↦ subst (λ k. bit_at word k ≡ 1 ↔ AtomTrue parts e m (64 * block + k))
-        (sym same) (λ t. absurd (let zero' = h.rest n (omega arith) in omega arith), λ w. absurd (none w))
-    | inr apart ↦ h.done i (omega arith)
-  ];
-  rest = λ i l. h.rest i (omega arith);
-}
+low_bits : (word i : ℕ) → i < 63 → bit_at (word % 2 ^ 63) i ≡ bit_at word i
+low_bits word i low =
+    let both = bit_at_and word (2 ^ 63 - 1) i in
+    let ones = bit_at_ones 63 i low in
+    let one = bit_at-lt word i in
+    ap (λ x. bit_at x i) (sym (and_mask word 63)) ∙ omega arith
 
-pub ask_true : (parts : Parts) (m : Molecule) (e : Term AtomPrim) (block n word : ℕ) → n < 64
-    → AtomTrue parts e m (64 * block + n) → IsBegun parts m e block n word
-    → IsBegun parts m e block (n + 1) (bit_or word (1 * 2 ^ n % 2 ^ 64))
-ask_true parts m e block n word few holds h = record {
-  done = λ i l. elim (cases_eq i n) [
-    | inl same ↦ subst (λ k. bit_at (bit_or word (1 * 2 ^ n % 2 ^ 64)) k ≡ 1 ↔ AtomTrue parts e m (64 * block + k))
-        (sym same) (λ t. holds, λ w. bit_at_set_same w64 word n few)
-    | inr apart ↦
-        let same = bit_at_set_other w64 word n few i apart in
-        let old = h.done i (omega arith) in
-        (λ t. old.0 (omega arith), λ w. let set' = old.1 w in omega arith)
-  ];
-  rest = λ i l. bit_at_set_other w64 word n few i (λ same. omega arith) ∙ h.rest i (omega arith);
-}
+pub others_up : (word bit i : ℕ) → bit < 2 → i + 1 < 64
+    → bit_at (bit_or (word * 2 % 2 ^ 64) bit) (i + 1) ≡ bit_at word i
+others_up word bit i low within =
+    let up : ℕ = word * 2 % 2 ^ 64 in
+    let next : i + 1 ≡ suc i = omega arith in
+    let half : up / 2 ≡ word % 2 ^ 63 = omega arith in
+    let moved : bit_at up (i + 1) ≡ bit_at word i = ap (bit_at up) next ∙ bit_at-suc up i ∙ ap (λ x. bit_at x i) half
+    ∙ low_bits word i (omega arith) in
+    let both = bit_at_or up bit (i + 1) in
+    let zero' = bit_at_above bit 1 (i + 1) (omega arith) (omega arith) in
+    omega arith
 
--- all bits of the block are found, and those of a word are taken
-pub asks_all : (parts : Parts) (m : Molecule) (p : AtomPrim) (block within n word : ℕ)
-    → ((i : ℕ) → i < 64 → n ≤ i → length m.atoms ≤ 64 * block + i) → IsBegun parts m (Prim p) block n word
-    → IsTruth parts m (Prim p) block within (bit_and word within)
-asks_all parts m p block within n word enough h i l =
+-- the bits of the word say where in the block, from the n-th atom on, the primitive is true
+abbrev pub IsSeen : Parts → Molecule → AtomPrim → ℕ → ℕ → ℕ → Type 0
+IsSeen parts m p block n word = (i : ℕ) → n + i < 64
+    → bit_at word i ≡ 1 ↔ AtomTrue parts (Prim p) m (64 * block + (n + i))
+
+pub none_seen : (parts : Parts) (m : Molecule) (p : AtomPrim) (block n : ℕ)
+    → n ≡ min 64 (length m.atoms - 64 * block) → IsSeen parts m p block n 0
+none_seen parts m p block n count i l =
+    let zero' = bit_at-zero i in (
+      λ t. absurd (omega arith),
+      λ w. absurd (let r = slice_get_within m.atoms (64 * block + (n + i)) w.0 w.1 in omega arith),
+    )
+
+-- one atom more, before the others
+pub one_seen : (parts : Parts) (m : Molecule) (p : AtomPrim) (block n next word new : ℕ) (r : Bool) → n + 1 ≡ next
+    → ((bit_at new 0 ≡ 1) ↔ (r ≡ true)) → ((i : ℕ) → i + 1 < 64 → bit_at new (i + 1) ≡ bit_at word i)
+    → (r ≡ true) ↔ AtomTrue parts (Prim p) m (64 * block + n) → IsSeen parts m p block next word
+    → IsSeen parts m p block n new
+one_seen parts m p block n next word new r after lowest others asked h i l = elim (cases_eq i 0) [
+  | inl first ↦
+      let here : 64 * block + n ≡ 64 * block + (n + i) = omega arith in
+      subst (λ k. bit_at new i ≡ 1 ↔ AtomTrue parts (Prim p) m k) here
+      (subst (λ k. bit_at new k ≡ 1 ↔ AtomTrue parts (Prim p) m (64 * block + n)) (sym first)
+      (λ t. asked.0 (lowest.0 t), λ w. lowest.1 (asked.1 w)))
+  | inr other ↦
+      let before : ℕ = i - 1 in
+      let is : before + 1 ≡ i = omega arith in
+      let there : 64 * block + (next + before) ≡ 64 * block + (n + i) = omega arith in
+      let same : bit_at new i ≡ bit_at word before = ap (bit_at new) (sym is) ∙ others before (omega arith) in
+      let old = h before (omega arith) in
+      subst (λ k. bit_at new i ≡ 1 ↔ AtomTrue parts (Prim p) m k) there
+      (λ t. old.0 (sym same ∙ t), λ w. same ∙ old.1 w)
+]
+
+-- all atoms of the block are seen, and those of a word are taken
+pub all_seen : (parts : Parts) (m : Molecule) (p : AtomPrim) (block within n word : ℕ) → n ≡ 0
+    → IsSeen parts m p block n word → IsTruth parts m (Prim p) block within (bit_and word within)
+all_seen parts m p block within n word none h i l =
     let both = bit_at_and word within i in
     let one = bit_at-lt word i in
     let two = bit_at-lt within i in
-    elim (cases_lt i n) [
-      | inl before ↦ (
-        λ t. (omega arith, (h.done i before).0 (omega arith)),
-        λ w.
-            let mine = w.0 in
-            let set' = (h.done i before).1 w.1 in
-            omega arith,
-      )
-      | inr after ↦ (
-        λ t. absurd (let zero' = h.rest i after in omega arith),
-        λ w. absurd (let r = slice_get_within m.atoms (64 * block + i) w.1.0 w.1.1 in let s = enough i l after in
-            omega arith),
-      )
-    ]
+    let all : 64 * block + (n + i) ≡ 64 * block + i = omega arith in
+    let here : bit_at word i ≡ 1 ↔ AtomTrue parts (Prim p) m (64 * block + i) =
+    subst (λ k. bit_at word i ≡ 1 ↔ AtomTrue parts (Prim p) m k) all (h i (omega arith)) in (
+      λ t. (omega arith, here.0 (omega arith)),
+      λ w.
+          let mine = w.0 in
+          let set' = here.1 w.1 in
+          omega arith,
+    )
+
+-- the atom of a block, as it is read
+pub prim_seen : (parts : Parts) (m : Molecule) (p : AtomPrim) (block i : ℕ) (atoms' : List Atom) (r : Bool)
+    → i < length atoms' → ((j : ℕ) → j < length atoms' → slice_get atoms' j ≡ slice_get m.atoms (64 * block + j))
+    → (r ≡ true) ↔ AtomPrimTrue parts p m (64 * block + i) (get_or atoms' i no_element)
+    → (r ≡ true) ↔ AtomTrue parts (Prim p) m (64 * block + i)
+prim_seen parts m p block i atoms' r within same asked = prim_at parts m (64 * block + i) p r
+    (get_or atoms' i no_element) (sym (same i within) ∙ slice_get-get_or atoms' i no_element within) asked
 
 -- all atoms of the block are asked
 pub truth_whole : (task : Task) (block place within word : ℕ) (t : Term AtomPrim)

@@ -1,6 +1,6 @@
 //! At which atoms each place of a graph may stand: a word for a place and each block of 64 atoms, with a bit for each
 //! atom. At first these are the atoms at which the place's expression is true.
-ghost use Rattle.std.specs.Prelude.{◌≡◌, ◌<◌, ◌≤◌, ◌+◌, ◌*◌, ◌↔◌, ℕ, length, slice_index, vec_len, IsTrue};
+ghost use Rattle.std.specs.Prelude.{◌≡◌, ◌<◌, ◌≤◌, ◌+◌, ◌-◌, ◌*◌, ◌↔◌, ℕ, length, min, slice_get, slice_index, vec_len, IsTrue};
 ghost use Rattle.std.specs.Int.{bit_at};
 ghost use Rattle.smarts_mean.specs.Table.{HoldsIn, Table};
 ghost use Rattle.smarts_parse.specs.Pattern.{Prim, term_of};
@@ -216,38 +216,54 @@ fn prim_truth(prim: AtomPrim, mol: &Mol, table: &RecTable, block: usize, within:
     }
 }
 
-// The same of a symbol.
+// The same of a symbol. The word is made from the last atom down, without a branch.
 fn symbol_truth(mol: &Mol, block: usize, within: u64, number: u8, lower: bool) -> u64
     requires { block < 16 }
     ensures { (t : Table)
         → IsTruth (HoldsIn t) mol.now (Prim (AtomPrim.Symbol number lower)) block within result }
 {
-    let atoms = mol.atoms();
+    let atoms = block_atoms(mol, block);
     let mut word = 0;
-    for bit in 0..atoms.len().saturating_sub(64 * block).min(64) {
-        if !has_symbol(atoms[64 * block + bit], number, lower) {
-            continue;
-        }
-        word |= 1 << bit;
+    for bit in (0..atoms.len()).rev() {
+        word = with_lowest(word, has_symbol(atoms[bit], number, lower));
     }
     word & within
 }
 
-// The same of a number.
+// The same of a number, in the same way.
 fn number_truth(mol: &Mol, block: usize, within: u64, number: u16) -> u64
     requires { block < 16 }
     ensures { (t : Table)
         → IsTruth (HoldsIn t) mol.now (Prim (AtomPrim.Number number)) block within result }
 {
-    let atoms = mol.atoms();
+    let atoms = block_atoms(mol, block);
     let mut word = 0;
-    for bit in 0..atoms.len().saturating_sub(64 * block).min(64) {
-        if !has_number(atoms[64 * block + bit], number) {
-            continue;
-        }
-        word |= 1 << bit;
+    for bit in (0..atoms.len()).rev() {
+        word = with_lowest(word, has_number(atoms[bit], number));
     }
     word & within
+}
+
+// The atoms of a block.
+fn block_atoms(mol: &Mol, block: usize) -> &[Atom]
+    requires { block < 16 }
+    ensures count { length result.now ≡ min 64 (length mol.now.atoms - 64 * block) }
+    ensures atoms { (i : ℕ) → i < length result.now
+        → slice_get result.now i ≡ slice_get mol.now.atoms (64 * block + i) }
+{
+    let atoms = mol.atoms();
+    let from = (64 * block).min(atoms.len());
+    let to = (from + 64).min(atoms.len());
+    &atoms[from..to]
+}
+
+// The bits of a word one place up, and a new one below them.
+#[inline(always)]
+fn with_lowest(word: u64, bit: bool) -> u64
+    ensures lowest { bit_at result 0 ≡ 1 ↔ IsTrue bit }
+    ensures others { (i : ℕ) → i + 1 < 64 → bit_at result (i + 1) ≡ bit_at word i }
+{
+    (word << 1) | u64::from(bit)
 }
 
 // The same of any primitive.
@@ -275,7 +291,7 @@ fn asked_truth(prim: AtomPrim, mol: &Mol, table: &RecTable, block: usize, within
 fn has_symbol(atom: Atom, number: u8, lower: bool) -> bool
     ensures { IsTrue result ↔ (atom.number ≡ number) × (atom.aromatic ≡ lower) }
 {
-    atom.number == number && atom.aromatic == lower
+    (atom.number == number) & (atom.aromatic == lower)
 }
 
 fn has_number(atom: Atom, number: u16) -> bool

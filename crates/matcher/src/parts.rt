@@ -17,7 +17,7 @@ use crate::lean::place_from;
 use crate::plan::EarlierBonds;
 use crate::prepare::Prepared;
 use crate::scratch::Memory;
-use crate::second::with_second;
+use crate::second::{with_pair, with_second};
 use chem_core::Mol;
 use smarts_parse::{Graph, Pattern};
 
@@ -94,6 +94,9 @@ fn begins_in(
         table: &memory.table,
         steps,
     };
+    if let Some(held) = with_pair(&task, &memory.candidates, block, all) {
+        return held;
+    }
     let near = with_second(&task, &memory.candidates, block, all);
     let mut left = near;
     let mut held = near;

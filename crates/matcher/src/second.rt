@@ -1,19 +1,19 @@
 //! Fewer atoms at which a search for a graph begins, in a molecule of at most 64 atoms: those from which the first bond
-//! of its second place may lead on.
-ghost use Rattle.std.specs.Prelude.{◌≡◌, ◌<◌, ◌≤◌, ◌+◌, ◌*◌, ◌∷◌, [], ℕ, length};
+//! of its second place may lead on. For a graph of two places and one bond these are the answer.
+ghost use Rattle.std.specs.Prelude.{◌≡◌, ◌<◌, ◌≤◌, ◌+◌, ◌*◌, ◌∷◌, ◌↔◌, ◌⊎◌, [], ℕ, length, slice_index, IfSome, IsTrue};
 ghost use Rattle.std.specs.Int.{bit_at};
 ghost use Rattle.chem_core.specs.Graph.{JoinsAt};
 ghost use Rattle.chem_core.specs.Molecule.{ends_of};
 ghost use Rattle.smarts_parse.specs.Pattern.{term_of};
 ghost use Rattle.smarts_parse.specs.Truth.{BondTrue};
-ghost use Rattle.matcher.specs.Candidates.{AreTruths};
+ghost use Rattle.matcher.specs.Candidates.{AreTruths, IsCandidate};
 ghost use Rattle.matcher.specs.Task.{Completes, IsReadyTask};
 
 use crate::candidates::{Candidates, has};
 use crate::fit::Task;
 use chem_core::Mol;
 use smarts_mean::bond_true;
-use smarts_parse::PatBond;
+use smarts_parse::{Graph, PatBond};
 
 /// The most atoms of a molecule that is looked at.
 const MOST_BITS: usize = 64;
@@ -42,11 +42,50 @@ pub fn with_second(task: &Task, candidates: &Candidates, block: usize, all: u64)
     all & leading_to(bond, task.mol, candidates.words[1])
 }
 
+/// Those atoms of a word for a block, of candidates of the first place, at which an embedding of the graph begins, if
+/// this is of two places and one bond. `None` for other graphs, for larger molecules, and where the word is empty.
+pub fn with_pair(task: &Task, candidates: &Candidates, block: usize, all: u64) -> Option<u64>
+    requires ready { IsReadyTask task.now }
+    requires truths { AreTruths task.now candidates.now.words.items }
+    requires first { (i : ℕ) → i < 64 → bit_at all i ≡ 1
+        → (64 * block + i < length task.now.mol.now.atoms)
+        × IsCandidate candidates.now.words.items 0 (64 * block + i) }
+    requires block { block < 16 }
+    ensures { IfSome result (λ found. (i : ℕ) → i < 64
+        → bit_at found i ≡ 1 ↔ (bit_at all i ≡ 1) × Completes task.now ((64 * block + i) ∷ [])) }
+{
+    if all == 0 || task.mol.atoms().len() > MOST_BITS || !is_pair(task.graph) {
+        return None;
+    }
+    let step = task.steps[1];
+    if step.from >= step.to {
+        return None;
+    }
+    let bond = &task.graph.bonds[step.from];
+    Some(all & leading_to(bond, task.mol, candidates.words[1]))
+}
+
+// Whether the graph is of two places and one bond, and both are of one group or of none.
+fn is_pair(graph: &Graph) -> bool
+    requires { length graph.now.groups.items ≡ length graph.now.atoms.items }
+    ensures two { IsTrue result → length graph.now.atoms.items ≡ 2 }
+    ensures one { IsTrue result → length graph.now.bonds.items ≡ 1 }
+    ensures same { IsTrue result
+        → slice_index graph.now.groups.items 0 ≡ slice_index graph.now.groups.items 1 }
+{
+    if graph.atoms.len() != 2 || graph.bonds.len() != 1 {
+        return false;
+    }
+    graph.groups[0] == graph.groups[1]
+}
+
 // The atoms that a bond, at which that of the graph is true, joins to one of a word.
 fn leading_to(bond: &PatBond, mol: &Mol, second: u64) -> u64
     requires { length mol.now.atoms ≤ 64 }
-    ensures { (b x y : ℕ) → JoinsAt (ends_of mol.now) b x y → BondTrue (term_of bond.now.expr) mol.now b
-        → bit_at second y ≡ 1 → bit_at result x ≡ 1 }
+    ensures all { (b x y : ℕ) → JoinsAt (ends_of mol.now) b x y
+        → BondTrue (term_of bond.now.expr) mol.now b → bit_at second y ≡ 1 → bit_at result x ≡ 1 }
+    ensures only { (x : ℕ) → bit_at result x ≡ 1 → (b y : ℕ) × JoinsAt (ends_of mol.now) b x y
+        × BondTrue (term_of bond.now.expr) mol.now b × (bit_at second y ≡ 1) }
 {
     let bonds = mol.bonds();
     let mut found = 0;
@@ -67,6 +106,8 @@ fn with_end(found: u64, second: u64, one: u16, other: u16) -> u64
     requires other { other < 64 }
     ensures here { bit_at second other ≡ 1 → bit_at result one ≡ 1 }
     ensures kept { (i : ℕ) → bit_at found i ≡ 1 → bit_at result i ≡ 1 }
+    ensures only { (i : ℕ) → bit_at result i ≡ 1
+        → (bit_at found i ≡ 1) ⊎ ((i ≡ one) × (bit_at second other ≡ 1)) }
 {
     if has(second, other) {
         found | (1 << one)

@@ -7,7 +7,7 @@ use Rattle.std.proofs.lemmas.Option.{same_Some, slice_get-get_or}
 use Rattle.smarts_mean.specs.Table.{HoldsIn}
 use Rattle.smarts_parse.specs.Pattern.{graph_of, term_of}
 use Rattle.matcher.specs.Class.{class_of}
-use Rattle.matcher.proofs.Beginnings.{asked_all, asked_held, asked_near, asked_out, asked_whole, next_first, one_begins}
+use Rattle.matcher.proofs.Beginnings.{all_begin, asked_all, asked_held, asked_near, asked_out, asked_whole, next_first, one_begins}
 use Rattle.matcher.proofs.Classes.{no_element}
 use Rattle.matcher.proofs.parts.begins_in.Goals as goal
 
@@ -16,6 +16,12 @@ returns-then-len-eq1-clause-found c = one_begins (HoldsIn c.args.memory.now.tabl
     c.args.mol.now c.args.memory.now.candidates.words.items c.args.classes c.args.block c.first_in-all.result
     c.requires.ready.searchable (length-map c.args.graph.now.atoms.items term_of ∙ omega arith)
     c.requires.truths c.first_in-all.ensures
+
+pub returns-in-Some-clause-found : goal.returns-in-Some-clause-found
+returns-in-Some-clause-found c = all_begin (HoldsIn c.args.memory.now.table) (graph_of c.args.graph.now)
+    c.args.mol.now c.args.memory.now.candidates.words.items c.args.classes c.args.block c.first_in-all.result
+    c.in-Some.held (subst (λ n. 0 < n) (sym (length-map c.args.graph.now.atoms.items term_of)) c.requires.some)
+    c.requires.truths c.first_in-all.ensures c.in-Some.ensures
 
 pub loop-turn-init : goal.loop-turn-init
 loop-turn-init c = record {

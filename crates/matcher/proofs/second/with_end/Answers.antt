@@ -1,6 +1,6 @@
-use Rattle.std.proofs.Common.{◌*◌, ◌%◌, ◌^◌, arith, w64}
-use Rattle.std.proofs.lemmas.Bool.{iff_false}
-use Rattle.std.proofs.lemmas.Nat.Bits.{bit_at-lt, bit_at_or, bit_at_set_same}
+use Rattle.std.proofs.Common.{◌*◌, ◌∙◌, ◌%◌, ◌^◌, arith, inl, inr, sym, w64}
+use Rattle.std.proofs.lemmas.Bool.{cases_eq, iff_false}
+use Rattle.std.proofs.lemmas.Nat.Bits.{bit_at-lt, bit_at_or, bit_at_set_other, bit_at_set_same}
 use Rattle.matcher.proofs.second.with_end.Goals as goal
 
 pub returns-then-has-clause-here : goal.returns-then-has-clause-here
@@ -15,3 +15,9 @@ returns-then-has-clause-kept c = λ i t.
 
 pub returns-else-has-clause-here : goal.returns-else-has-clause-here
 returns-else-has-clause-here c = λ t. absurd (iff_false c.has.ensures c.if-has.false t)
+
+pub returns-then-has-clause-only : goal.returns-then-has-clause-only
+returns-then-has-clause-only c = λ i t. elim (cases_eq i c.args.one) [
+  | inl same ↦ inr (same, c.has.ensures.0 c.if-has.true)
+  | inr apart ↦ inl (sym (bit_at_set_other w64 c.args.found c.args.one c.requires.one i apart) ∙ t)
+]

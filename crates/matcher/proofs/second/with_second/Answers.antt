@@ -21,4 +21,4 @@ returns-clause-begins c = λ i l mine w.
     c.args.all c.index.result.now c.leading_to.result i (omega (arith, ap length c.atoms.ensures.value)) refl
     c.requires.ready (subst (λ n. 1 < n) (sym (length-map task.graph.now.atoms.items term_of)) c.requires.some)
     c.requires.truths (omega arith) c.index-bond.ensures (omega (arith, c.args.candidates.now.room))
-    c.index.ensures c.leading_to.ensures l mine w
+    c.index.ensures c.leading_to.ensures.all l mine w
