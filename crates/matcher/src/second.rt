@@ -9,14 +9,11 @@ ghost use Rattle.smarts_parse.specs.Truth.{BondTrue};
 ghost use Rattle.matcher.specs.Candidates.{AreTruths, IsCandidate};
 ghost use Rattle.matcher.specs.Task.{Completes, IsReadyTask};
 
-use crate::candidates::{Candidates, has};
+use crate::candidates::{Candidates, MOST_BITS, has};
 use crate::fit::Task;
 use chem_core::Mol;
 use smarts_mean::bond_true;
 use smarts_parse::{Graph, PatBond};
-
-/// The most atoms of a molecule that is looked at.
-const MOST_BITS: usize = 64;
 
 /// From as many atoms on it pays.
 const MANY_ATOMS: u32 = 8;
