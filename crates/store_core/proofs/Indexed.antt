@@ -1,5 +1,5 @@
 -- An index of the entries that have a record: an entry more, one taken out, and the next that is wanted.
-use Rattle.std.proofs.Common.{◌≡◌, ◌≢◌, ◌+◌, ◌*◌, ◌++◌, ◌==◌, ◌&&◌, ◌<◌, ◌≤◌, ◌⊎◌, ◌∙◌, All, ap, arith, Bool, Bor, cond, Contains, eq-eqb, eqb-true, false, filter, get_or, inl, inr, length, List, [], ◌∷◌, MatchOption, nat_lt, None, not, Option, refl, Some, subst, sym, true, ℕ}
+use Rattle.std.proofs.Common.{◌≡◌, ◌≢◌, ◌+◌, ◌*◌, ◌++◌, ◌==◌, ◌&&◌, ◌<◌, ◌≤◌, ◌⊎◌, ◌∙◌, All, ap, arith, Bool, Bor, cond, Contains, eq-eqb, eqb-true, false, filter, get_or, IfSome, inl, inr, length, List, [], ◌∷◌, MatchOption, nat_lt, None, not, Option, option_map, refl, Some, subst, sym, true, ℕ}
 use Rattle.std.proofs.lemmas.Bool.{cases_lt, cond-false, cond-true, ne_eqb, true≢false}
 use Rattle.std.proofs.lemmas.List.Elements.{All-contains, Contains-append_left, Contains-get_or, Contains-push, Contains-push_cases}
 use Rattle.std.proofs.lemmas.List.{get_or_default}
@@ -10,7 +10,7 @@ use Rattle.std.specs.List.{AllPairs}
 use Rattle.record_versions.specs.Entries.{IsLatest, chain_of, is_other}
 use Rattle.screen_index.specs.Pairs.{Holds, IsNext, IsWanted, Lacks, is_apart, put_in, rank, rank_of}
 use Rattle.screen_index.specs.declared.entry.Screened.{Screened}
-use Rattle.store_core.specs.Kept.{AreIndexed, Chains, HasPrint, IsNextId, Kept, kept_of, with_print}
+use Rattle.store_core.specs.Kept.{AreIndexed, Chains, HasPrint, HoldsAt, IsNextId, Kept, kept_of, with_print}
 use Rattle.store_core.specs.Records.{Shared}
 use Rattle.store_core.proofs.Dead.{Takes, taken-has, taken-in, which}
 use Rattle.store_machine.proofs.Members.{contains-here, contains-split, contains-there}
@@ -332,27 +332,56 @@ stands chains xs want from id k h le c holds =
       wanted = (omega (arith, le), r.holds);
     }
 
-pub next-none : (chains : Chains) (xs : List Screened) (want : List Bool) (from : ℕ) → AreIndexed chains xs
+next-none : (chains : Chains) (xs : List Screened) (want : List Bool) (from : ℕ) → AreIndexed chains xs
     → IsNext want (rank from 0) xs None → IsNextId want from chains None
 next-none chains xs want from h none id k le c holds =
     let s = stands chains xs want from id k h le c holds in
     All-contains (λ (x : Screened). ¬ IsWanted want (rank from 0) x) xs s.x none s.there s.wanted
 
-pub next-some : (chains : Chains) (xs : List Screened) (want : List Bool) (from : ℕ) (p : ℕ × ℕ) → AreIndexed chains xs
-    → IsNext want (rank from 0) xs (Some p) → IsNextId want from chains (Some p.0)
-next-some chains xs want from p h (x, c, id-is, version-is, wanted, least) =
+-- the entry of a pair that was found
+abbrev Meant : Chains → List Bool → ℕ × ℕ → Type 0
+Meant chains want p = (r : Shared) × Contains (chain_of chains p.0) (record { version = p.1; value = Some r })
+    × HasPrint want (Some r)
+
+meant : (chains : Chains) (xs : List Screened) (want : List Bool) (from : ℕ) (p : ℕ × ℕ) → AreIndexed chains xs
+    → IsNext want (rank from 0) xs (Some p) → Meant chains want p
+meant chains xs want from p h (x, c, id-is, version-is, wanted, least) =
     let r = h.only x c in (
+      r.0,
+      subst (λ v. Contains (chain_of chains p.0) (record { version = v; value = Some r.0 })) version-is
+          (subst (λ q. Contains (chain_of chains q) (record { version = x.version; value = Some r.0 })) id-is r.2),
+      λ bit need. subst (λ print. HasBit print bit) r.1 (wanted.1 bit need),
+    )
+
+next-some : (chains : Chains) (xs : List Screened) (want : List Bool) (from : ℕ) (p : ℕ × ℕ) → AreIndexed chains xs
+    → IsNext want (rank from 0) xs (Some p) → IsNextId want from chains (Some p.0)
+next-some chains xs want from p h next =
+    let m = meant chains xs want from p h next in
+    let (x, c, id-is, version-is, wanted, least) = next in (
       (let up = id-up-to from x.id 0 x.version (h.versions x c) wanted.0 in omega (arith, up, id-is)),
-      (
-        record { version = x.version; value = Some r.0 },
-        subst (λ q. Contains (chain_of chains q) (record { version = x.version; value = Some r.0 })) id-is r.2,
-        λ bit need. subst (λ print. HasBit print bit) r.1 (wanted.1 bit need),
-      ),
+      (record { version = p.1; value = Some m.0 }, m.1, m.2),
       λ id k le d holds.
           let s = stands chains xs want from id k h le d holds in
           let up = id-up-to x.id s.x.id x.version s.x.version (h.versions s.x s.there) (least s.x s.there s.wanted) in
           omega (arith, up, id-is, s.id-is),
     )
+
+pub next-id : (chains : Chains) (xs : List Screened) (want : List Bool) (from : ℕ) (o : Option (ℕ × ℕ))
+    → AreIndexed chains xs → IsNext want (rank from 0) xs o → IsNextId want from chains (option_map (λ p. p.0) o)
+next-id chains xs want from None h next = next-none chains xs want from h next
+next-id chains xs want from (Some p) h next = next-some chains xs want from p h next
+
+pub next-version : (chains : Chains) (xs : List Screened) (want : List Bool) (from : ℕ) (o : Option (ℕ × ℕ))
+    → AreIndexed chains xs → IsNext want (rank from 0) xs o
+    → IfSome o (λ p. All (HoldsAt want p.1) (chain_of chains p.0))
+next-version chains xs want from None h next = tt
+next-version chains xs want from (Some p) h next =
+    let ks = chain_of chains p.0 in
+    let m = meant chains xs want from p h next in
+    λ i d less same.
+    let e = one-version ks (get_or ks i d) (record { version = p.1; value = Some m.0 }) (h.ascending p.0)
+    (Contains-get_or ks i d less) m.1 same in
+    subst (λ o. IfSome o (λ r. HasPrint want (Some r))) (sym (ap (λ (k : Kept). k.value) e)) m.2
 
 -- what was found of an identifier is its latest entry
 pub found-is : (version : ℕ) (ks : List Kept) (r : Option (ℕ × Bor (Option Shared)))

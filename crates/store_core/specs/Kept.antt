@@ -67,6 +67,10 @@ IsNextId want from chains (Some next) = (from ≤ next)
     × ((k : Kept) × Contains (chain_of chains next) k × HasPrint want k.value)
     × ((id : ℕ) (k : Kept) → from ≤ id → Contains (chain_of chains id) k → HasPrint want k.value → next ≤ id)
 
+-- if an entry is of this version and has a record, the record's print has each bit that is wanted
+abbrev pub HoldsAt : List Bool → ℕ → Kept → Type 0
+HoldsAt want version k = k.version ≡ version → IfSome k.value (λ r. HasPrint want (Some r))
+
 -- an identifier has an entry of a version
 abbrev pub HasEntry : Chains → Entry → Type 0
 HasEntry chains e = (k : Kept) × Contains (chain_of chains e.id) k × (k.version ≡ e.version)

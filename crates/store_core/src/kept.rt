@@ -3,7 +3,7 @@ ghost use Rattle.std.specs.Prelude.{◌≡◌, ◌==◌, ◌+◌, ◌^◌, ◌++
 ghost use Rattle.std.specs.Arc.{arc_value};
 ghost use Rattle.record_versions.specs.Entries.{IsLatest, IsLeastId, IsRead, chain_of, entries, is_other};
 ghost use Rattle.store_machine.specs.declared.machine.Entry.{Entry};
-ghost use Rattle.store_core.specs.Kept.{AreIndexed, HasEntry, HasRoom, IsNextId, Kept, Lists, kept_of, with_print};
+ghost use Rattle.store_core.specs.Kept.{AreIndexed, HasEntry, HasRoom, HoldsAt, IsNextId, Kept, Lists, kept_of, with_print};
 ghost use Rattle.store_core.specs.Records.{Shared};
 ghost use Rattle.screen_index.specs.Pairs.{Lacks, Rises, is_apart, rank};
 
@@ -110,12 +110,14 @@ impl KeptEntries {
         self.at(id, version, &mut Steps::<L>::open(blank))
     }
 
-    /// The least identifier from `from` on that has an entry whose print holds what is wanted, whatever the hint says.
-    pub fn next(&self, want: &Print, from: u32, hint: &mut Hint) -> Option<u32>
-        ensures { IsNextId want.now from self.now.chains result }
+    /// The least identifier from `from` on that has an entry whose print holds what is wanted, whatever the hint says,
+    /// and a version: the identifier's record of this version, if there is one, has such a print.
+    pub fn next(&self, want: &Print, from: u32, hint: &mut Hint) -> Option<(u32, u32)>
+        ensures id { IsNextId want.now from self.now.chains (option_map (λ p. p.0) result) }
+        ensures version { IfSome result
+            (λ p. All (HoldsAt want.now p.1) (chain_of self.now.chains p.0)) }
     {
-        let (id, _) = self.index.next(want, (from, 0), hint)?;
-        Some(id)
+        self.index.next(want, (from, 0), hint)
     }
 
     /// The least identifier from `from` on that has an entry. It takes no memory.

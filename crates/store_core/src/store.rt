@@ -14,7 +14,7 @@ ghost use Rattle.store_machine.specs.declared.machine.TheConstants.{LAST_IDENTIF
 ghost use Rattle.store_core.specs.Based.{IsBefore, IsGiven, based};
 ghost use Rattle.store_core.specs.Calls.{Calls, NotRaised, SameHeld, WornAs, is_compact_worn, is_worn, is_worn_out};
 ghost use Rattle.store_core.specs.Copied.{IsFirstFrom, KeepsCopy, KeepsVersion, Prunes, state_of};
-ghost use Rattle.store_core.specs.Kept.{HasPrint, kept_of, record_of, status_in};
+ghost use Rattle.store_core.specs.Kept.{HasPrint, HoldsAt, kept_of, record_of, status_in};
 ghost use Rattle.store_core.specs.Prepared.{IsPrepared, IsWhy};
 ghost use Rattle.store_core.specs.Records.{IsRecord, Shared, founds};
 ghost use Rattle.store_core.specs.Replies.{change_of, compact_calls, fetch_calls};
@@ -281,9 +281,9 @@ impl Store {
         one_structure();
         let mut place = from;
         let mut hint = Hint::default();
-        while let Some(id) = self.kept.next(want, place, &mut hint) {
+        while let Some((id, version)) = self.kept.next(want, place, &mut hint) {
             let found = self.kept.at(id, pin.version, steps);
-            if let Some(record) = screened(found, want) {
+            if let Some(record) = screened(found, version, want) {
                 if page.records().len() >= limit as usize {
                     return Ok(false);
                 }
@@ -432,17 +432,20 @@ fn one_more(entry: &Option<Arc<Record>>, live: u32, withdrawn: u32) -> (u32, u32
     }
 }
 
-// The record that was found, where its print holds what is wanted.
+// The record that was found, where its print holds what is wanted. The print of an entry of this version does, and is
+// not read.
 fn screened<'a>(
     found: Option<(u32, &'a Option<Arc<Record>>)>,
+    version: u32,
     want: &Print,
 ) -> Option<&'a Arc<Record>>
+    requires { IfSome (kept_of found) (HoldsAt want.now version) }
     ensures { MatchOption result
         (¬ HasPrint want.now (record_of (kept_of found.entry)))
         (λ r. (record_of (kept_of found.entry) ≡ Some r.now) × HasPrint want.now (Some r.now)) }
 {
     match found {
-        Some((_, Some(record))) if record.print().holds(want) => Some(record),
+        Some((at, Some(record))) if at == version || record.print().holds(want) => Some(record),
         _ => None,
     }
 }

@@ -27,7 +27,7 @@ pub returns-then-records-limit-clause-page : goal.returns-then-records-limit-cla
 returns-then-records-limit-clause-page g c =
     let law = c.laws.ensures in
     let next = subst (λ (t : StoreTerm). IsNextId c.args.want.now c.loop-id.place t.kept.chains (Some c.in-Some.id))
-    c.self.view_is c.in-Some.ensures in
+    c.self.view_is c.in-Some.ensures.id in
     let latest = subst (λ (t : StoreTerm). IsLatest c.args.pin.now.version (chain_of t.kept.chains c.in-Some.id)
     (kept_of c.at-found.result)) c.self.view_is c.at-found.ensures.latest in
     full-page law.read law.states c.one_structure.ensures c.args.self.now c.args.pin.now c.requires.held c.args.want.now
@@ -46,7 +46,7 @@ pub returns-then-records-limit-clause-steps : goal.returns-then-records-limit-cl
 returns-then-records-limit-clause-steps g c =
     let law = c.laws.ensures in
     let next = subst (λ (t : StoreTerm). IsNextId c.args.want.now c.loop-id.place t.kept.chains (Some c.in-Some.id))
-    c.self.view_is c.in-Some.ensures in
+    c.self.view_is c.in-Some.ensures.id in
     λ s h. (step-more law.read law.states c.one_structure.ensures c.args.self.now c.args.pin.now c.requires.held
     c.args.want.now c.args.from c.loop-id.place c.in-Some.id c.args.steps.now c.loop-id.steps c.at-found.new.steps
     c.loop-id.invariant.later next c.at-found.ensures.steps c.loop-id.invariant.taken s h).steps
@@ -55,14 +55,14 @@ pub returns-in_err-try_clone-clause-steps : goal.returns-in_err-try_clone-clause
 returns-in_err-try_clone-clause-steps g c =
     let law = c.laws.ensures in
     let next = subst (λ (t : StoreTerm). IsNextId c.args.want.now c.loop-id.place t.kept.chains (Some c.in-Some.id))
-    c.self.view_is c.in-Some.ensures in
+    c.self.view_is c.in-Some.ensures.id in
     λ s h. (step-more law.read law.states c.one_structure.ensures c.args.self.now c.args.pin.now c.requires.held
     c.args.want.now c.args.from c.loop-id.place c.in-Some.id c.args.steps.now c.loop-id.steps c.at-found.new.steps
     c.loop-id.invariant.later next c.at-found.ensures.steps c.loop-id.invariant.taken s h).steps
 
 pub overflow_add-place : goal.overflow_add-place
 overflow_add-place g c =
-    let (k, there, print) = c.in-Some.ensures.1 in
+    let (k, there, print) = c.in-Some.ensures.id.1 in
     let most = in-range c.args.want.now c.in-Some.id k.value
     ((c.self.invariant.1.chains c.in-Some.id).records k there) print in
     omega (arith, most)
@@ -71,7 +71,7 @@ pub loop-id-preserved : goal.loop-id-preserved
 loop-id-preserved g c =
     let law = c.laws.ensures in
     let next = subst (λ (t : StoreTerm). IsNextId c.args.want.now c.loop-id.place t.kept.chains (Some c.in-Some.id))
-    c.self.view_is c.in-Some.ensures in
+    c.self.view_is c.in-Some.ensures.id in
     let latest = subst (λ (t : StoreTerm). IsLatest c.args.pin.now.version (chain_of t.kept.chains c.in-Some.id)
     (kept_of c.at-found.result)) c.self.view_is c.at-found.ensures.latest in
     let low = c.loop-id.invariant.later in
@@ -127,7 +127,7 @@ pub returns-clause-page : goal.returns-clause-page
 returns-clause-page g c =
     let law = c.laws.ensures in
     let none = subst (λ (t : StoreTerm). IsNextId c.args.want.now c.loop-id.place t.kept.chains None)
-    c.self.view_is c.in_default.ensures in
+    c.self.view_is c.in_default.ensures.id in
     last-page law.read law.states c.one_structure.ensures c.args.self.now c.args.pin.now c.requires.held c.args.want.now
     c.args.from c.loop-id.place c.args.limit c.loop-id.page.records c.loop-id.invariant.goes_on none
     c.loop-id.invariant.few
