@@ -1,3 +1,4 @@
+pub mod Ahead
 pub mod Listed
 pub mod Order
 pub mod Walk

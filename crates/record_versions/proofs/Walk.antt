@@ -13,6 +13,7 @@ use Rattle.std.specs.Map.{keys_of}
 use Rattle.std.specs.declared.ops.Bound.TheVariants.{Included, Unbounded}
 use Rattle.record_versions.specs.Entries.{IsDead, IsLeastDead, IsLeastId, IsLeastUnread, IsRead, IsUpTo, chain_of, entries_in, row_of}
 use Rattle.record_versions.specs.Rows.{Row}
+use Rattle.record_versions.specs.Ahead.{Rise}
 use Rattle.record_versions.specs.declared.chain.Entry.{Entry}
 
 pub same-at : (a b : ℕ) → is_at (nat_cmp a) b ≡ true → a ≡ b
@@ -31,11 +32,6 @@ on-from : (a b k : ℕ) → a ≤ b → is_at (nat_cmp b) k ≡ true → range_c
 on-from a b k le t = let same = same-at b k t in grind (arith, nat_tests)
 
 module _ {V : Type 0} where
-  -- identifiers ascend, from one on
-  abbrev pub Rise : ℕ → List (ℕ × Row V) → Type 0
-  Rise a [] = Unit {0}
-  Rise a (e ∷ es) = (a ≤ e.0) × Rise (e.0 + 1) es
-
   pub lower : (a b : ℕ) (es : List (ℕ × Row V)) → a ≤ b → Rise b es → Rise a es
   lower a b [] le up = tt
   lower a b (e ∷ es) le up = (let h = up.0 in omega (arith, le, h), up.1)
@@ -88,8 +84,15 @@ module _ {V : Type 0} where
       ap (λ b. entries_in (cond b (Some e.1) (row_of es id)))
       (ap (λ n. is_at (nat_cmp n) e.0) same ∙ at-same e.0)
 
-  rest-chain : (e : ℕ × Row V) (es : List (ℕ × Row V)) (id : ℕ) → e.0 < id → chain_of (e ∷ es) id ≡ chain_of es id
+  pub rest-chain : (e : ℕ × Row V) (es : List (ℕ × Row V)) (id : ℕ) → e.0 < id → chain_of (e ∷ es) id ≡ chain_of es id
   rest-chain e es id above = ap (λ b. entries_in (cond b (Some e.1) (row_of es id))) (at-other id e.0 above)
+
+  pub chain-between : (a id : ℕ) → a ≤ id → (all left : List (ℕ × Row V)) → left ≡ Between a all
+      → chain_of left id ≡ chain_of all id
+  chain-between a id le all left is =
+      ap (λ l. chain_of l id) is
+      ∙ ap entries_in (lookup-filter-keys (is_at (nat_cmp id)) (range_contains nat_cmp (Included a) Unbounded)
+      true (λ k t. on-from a id k le t) all)
 
   -- an entry of a chain that is dead there is dead among them, and so is no other
   abbrev DeadIn : List ℕ → List (Entry V) → ℕ → Type 0
@@ -109,13 +112,9 @@ module _ {V : Type 0} where
   pub begins : (live : List ℕ) (from : ℕ × ℕ) (all left : List (ℕ × Row V)) → left ≡ Between from.0 all
       → GoesOn live from all left
   begins live from all left is =
-      same-dead live from all left (λ p up dead. subst (λ ks. DeadIn live ks p.1) (chain p up) dead)
-      (λ p up dead. subst (λ ks. DeadIn live ks p.1) (sym (chain p up)) dead)
-    where
-      chain : (p : ℕ × ℕ) → IsUpTo from p → chain_of left p.0 ≡ chain_of all p.0
-      chain p up = ap (λ l. chain_of l p.0) is
-          ∙ ap entries_in (lookup-filter-keys (is_at (nat_cmp p.0)) (range_contains nat_cmp (Included from.0) Unbounded)
-          true (λ k t. on-from from.0 p.0 k up.0 t) all)
+      same-dead live from all left
+      (λ p up dead. subst (λ ks. DeadIn live ks p.1) (chain-between from.0 p.0 up.0 all left is) dead)
+      (λ p up dead. subst (λ ks. DeadIn live ks p.1) (sym (chain-between from.0 p.0 up.0 all left is)) dead)
 
   -- a chain without dead entries is passed by
   pub passed-by : (live : List ℕ) (from : ℕ × ℕ) (all rest : List (ℕ × Row V)) (e : ℕ × Row V)

@@ -4,6 +4,7 @@ ghost use Rattle.std.specs.List.{AllPairs};
 ghost use Rattle.record_versions.specs.Entries.{IsLatest, IsLeastDead, IsLeastId, IsReserved, chain_of, entries, is_other};
 
 use crate::chain::Chain;
+use crate::finder::Finder;
 use crate::steps::Steps;
 use std::alloc::{AllocError, Global};
 use std::collections::BTreeMap;
@@ -89,6 +90,13 @@ impl<V: Drop> Chains<V> {
         steps.raise();
         let entry = self.chains.get(&id)?.latest(version)?;
         Some((entry.version, &entry.value))
+    }
+
+    /// What looks at one identifier after another, from one on.
+    pub fn finder(&self, id: u32) -> Finder<'_, V>
+        ensures { result ≡ self.now }
+    {
+        Finder::begin(&self.chains, id)
     }
 
     /// The identifier and the version of the least entry that is not the latest of its identifier at any version of

@@ -7,9 +7,11 @@
 mod chain;
 mod chains;
 mod entries;
+mod finder;
 mod steps;
 
 pub use chains::Chains;
+pub use finder::Finder;
 pub use steps::Steps;
 
 #[cfg(test)]

@@ -2,7 +2,7 @@
 use std::marker::Model;
 use std::sync::ledger::{Blank, Book, Ledger, Share};
 
-/// How many kept entries were read. It takes no bytes, and only `Chains::at` raises it.
+/// How many kept entries were read. It takes no bytes, and only looks at chains raise it.
 #[derive(Drop)]
 pub struct Steps<L: Ledger> {
     book: Book<L>,

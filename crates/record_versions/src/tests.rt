@@ -1,7 +1,7 @@
 //! Chains of two identifiers, worked by hand.
 ghost use Rattle.std.specs.Prelude.{◌≡◌, ◌<◌};
 
-use crate::{Chains, Steps};
+use crate::{Chains, Finder, Steps};
 use std::marker::Brand;
 use std::sync::ledger::{Blank, Ledger};
 use std::test::Fail;
@@ -26,6 +26,26 @@ fn look_by<L: Ledger>(
     Some((version, *value))
 }
 
+// What a finder finds.
+fn find(finder: &mut Finder<'_, char>, id: u32, version: u32) -> Option<(u32, char)> {
+    find_by::<Brand>(finder, id, version, Blank::new(1))
+}
+
+fn find_by<L: Ledger>(
+    finder: &mut Finder<'_, char>,
+    id: u32,
+    version: u32,
+    blank: Blank,
+) -> Option<(u32, char)>
+    requires name { blank.name ≡ L.name }
+    requires parts { blank.parts ≡ L.parts }
+    requires one { 0 < blank.parts }
+{
+    let mut steps = Steps::<L>::open(blank);
+    let (version, value) = finder.at(id, version, &mut steps)?;
+    Some((version, *value))
+}
+
 #[test]
 fn an_entry_is_read_until_the_next_and_dead_where_nobody_reads_it(
     rt: HostRuntime,
@@ -46,7 +66,13 @@ fn an_entry_is_read_until_the_next_and_dead_where_nobody_reads_it(
         (2, 9, Some((2, 'c'))),
         (5, 9, None),
     ];
+    let mut finder = chains.finder(0);
     for (id, version, entry) in rows {
+        assert_eq!(rt;
+            find(&mut finder, id, version),
+            entry,
+            "{id} at {version} by a finder"
+        );
         assert_eq!(rt; look(&chains, id, version), entry, "{id} at {version}");
     }
     chains.reserve(5)?;

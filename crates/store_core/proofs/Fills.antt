@@ -25,6 +25,12 @@ GoesOn store v want from place page = (s : State) → StandsFor store (served s)
     → AreFound (IsScreened want) (snapshot s.history v) all
     → from_on from all ≡ founds page ++ from_on place all
 
+-- the same where the page has other references to the same records
+pub goes-same : (store : StoreTerm) (v : ℕ) (want : List Bool) (from place : ℕ) (page new : List Shared)
+    → founds new ≡ founds page → GoesOn store v want from place page → GoesOn store v want from place new
+goes-same store v want from place page new same goes s h all found =
+    goes s h all found ∙ ap (λ l. l ++ from_on place all) (sym same)
+
 -- an entry that has a record is of an identifier in range
 pub in-range : (want : List Bool) (id : ℕ) (entry : Option Shared) → IsEntryOf id entry → HasPrint want entry
     → id ≤ 999999999

@@ -24,3 +24,4 @@ mod Screened
 mod Sees
 mod Stepped
 mod Taken
+mod Waits

@@ -9,3 +9,4 @@ pub mod Records
 pub mod Replies
 pub mod Steps
 pub mod Stored
+pub mod Waiting

@@ -10,12 +10,15 @@ ghost use Rattle.screen_index.specs.Pairs.{Lacks, Rises, is_apart, rank};
 use crate::record::Record;
 use arrayvec::ArrayVec;
 use chem_core::Print;
-use record_versions::{Chains, Steps};
+use record_versions::{Chains, Finder, Steps};
 use screen_index::{Hint, ScreenIndex};
 use std::alloc::{AllocError, Global};
 use std::marker::{Brand, Model};
 use std::sync::Arc;
 use std::sync::ledger::{Blank, Ledger};
+
+/// What looks at entries. Contracts see all of them.
+pub type EntryFinder<'a> = Finder<'a, Option<Arc<Record>>>;
 
 // Places of entries that have left the chains, in ascending order.
 type Gone = ArrayVec<(u32, u32), 256>;
@@ -76,20 +79,14 @@ impl KeptEntries {
         self.chains.add(id, version, entry);
     }
 
-    /// The version and the record of an identifier's latest entry that is not after `version`. It takes one step.
-    pub fn at<L: Ledger>(
-        &self,
-        id: u32,
-        version: u32,
-        steps: &mut Steps<L>,
-    ) -> Option<(u32, &Option<Arc<Record>>)>
-        ensures latest { IsLatest version (chain_of self.now.chains id) (kept_of result) }
-        ensures steps { steps.new ≡ steps.old + 1 }
+    /// What looks at one identifier after another, from one on.
+    pub fn finder(&self, id: u32) -> EntryFinder<'_>
+        ensures { result ≡ self.now.chains }
     {
-        self.chains.at(id, version, steps)
+        self.chains.finder(id)
     }
 
-    /// The same, where nobody counts the steps.
+    /// The version and the record of an identifier's latest entry that is not after `version`.
     pub fn latest(&self, id: u32, version: u32) -> Option<(u32, &Option<Arc<Record>>)>
         ensures { IsLatest version (chain_of self.now.chains id) (kept_of result) }
     {
@@ -107,7 +104,7 @@ impl KeptEntries {
         requires some { 0 < blank.parts }
         ensures { IsLatest version (chain_of self.now.chains id) (kept_of result) }
     {
-        self.at(id, version, &mut Steps::<L>::open(blank))
+        self.chains.at(id, version, &mut Steps::<L>::open(blank))
     }
 
     /// The least identifier from `from` on that has an entry whose print holds what is wanted, whatever the hint says,
@@ -146,6 +143,20 @@ impl KeptEntries {
     {
         self.chains.kept()
     }
+}
+
+/// The version and the record of an identifier's latest entry that is not after `version`. It takes one step.
+pub fn look<'a, L: Ledger>(
+    finder: &mut EntryFinder<'a>,
+    id: u32,
+    version: u32,
+    steps: &mut Steps<L>,
+) -> Option<(u32, &'a Option<Arc<Record>>)>
+    ensures latest { IsLatest version (chain_of finder.old id) (kept_of result) }
+    ensures finder { finder.new ≡ finder.old }
+    ensures steps { steps.new ≡ steps.old + 1 }
+{
+    finder.at(id, version, steps)
 }
 
 // The print of an entry, where it has a record, into the index.

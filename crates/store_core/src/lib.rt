@@ -10,6 +10,7 @@ mod page;
 mod record;
 mod service;
 mod store;
+mod waiting;
 mod words;
 
 pub use laws::{calls_serve_any_disks, stores_ask_no_owner, versions_in_use_are_kept};

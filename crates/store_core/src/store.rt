@@ -21,11 +21,12 @@ ghost use Rattle.store_core.specs.Replies.{change_of, compact_calls, fetch_calls
 ghost use Rattle.store_core.specs.Steps.{AreSteps};
 ghost use Rattle.store_core.specs.Stored.{HoldsPin, IsAt, Served, StandsFor, Stretches, alone, empty, served};
 
-use crate::kept::KeptEntries;
+use crate::kept::{KeptEntries, look};
 use crate::laws::laws;
 use crate::page::{MOST_RECORDS, Page};
 use crate::record::Record;
 use crate::service::Service;
+use crate::waiting::Waiting;
 use crate::words::{
     CallFault, Change, CommitFault, Compact, CompactFault, IdState, Look, Stats, counted,
 };
@@ -281,16 +282,20 @@ impl Store {
         one_structure();
         let mut place = from;
         let mut hint = Hint::default();
+        let mut finder = self.kept.finder(from);
+        let mut waiting = Waiting::new();
         while let Some((id, version)) = self.kept.next(want, place, &mut hint) {
-            let found = self.kept.at(id, pin.version, steps);
+            let found = look(&mut finder, id, pin.version, steps);
             if let Some(record) = screened(found, version, want) {
-                if page.records().len() >= limit as usize {
+                if page.records().len() + waiting.len() >= limit as usize {
+                    waiting.share(page)?;
                     return Ok(false);
                 }
-                page.push(Arc::try_clone(record)?);
+                waiting.gather(record, page)?;
             }
             place = id + 1;
         }
+        waiting.share(page)?;
         Ok(true)
     }
 }

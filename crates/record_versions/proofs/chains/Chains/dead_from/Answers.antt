@@ -1,7 +1,8 @@
 use Rattle.std.proofs.Common.{◌∙◌, ◌+◌, ap, arith, None, Some, subst, sym, ℕ}
 use Rattle.record_versions.specs.Entries.{IsLeastUnread}
 use Rattle.record_versions.specs.Rows.{Row}
-use Rattle.record_versions.proofs.Walk.{Between, GoesOn, Rise, at-end, begins, between-rises, found, lower, passed-by, rises}
+use Rattle.record_versions.specs.Ahead.{Rise}
+use Rattle.record_versions.proofs.Walk.{Between, GoesOn, at-end, begins, between-rises, found, lower, passed-by, rises}
 use Rattle.record_versions.proofs.chains.Chains.dead_from.Goals as goal
 
 pub loop-id-init : goal.loop-id-init

@@ -1,4 +1,5 @@
-use Rattle.record_versions.proofs.Walk.{GoesOn, Rise}
+use Rattle.record_versions.specs.Ahead.{Rise}
+use Rattle.record_versions.proofs.Walk.{GoesOn}
 use Rattle.record_versions.proofs.chains.Chains.dead_from.Given as goal
 
 abbrev pub invariant-loop-id : goal.invariant-loop-id

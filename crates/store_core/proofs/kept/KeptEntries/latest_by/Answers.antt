@@ -1,8 +1,8 @@
 use Rattle.std.proofs.Common.{sym}
 use Rattle.record_versions.specs.Entries.{chain_of}
 use Rattle.store_core.proofs.Indexed.{found-is}
-use Rattle.store_core.proofs.kept.KeptEntries.at.Goals as goal
+use Rattle.store_core.proofs.kept.KeptEntries.latest_by.Goals as goal
 
-pub returns-clause-latest : goal.returns-clause-latest
-returns-clause-latest g c = rw (sym c.self.view_is)
+pub returns : goal.returns
+returns g c = rw (sym c.self.view_is)
     (found-is c.args.version (chain_of c.self.inside.chains c.args.id) c.at.result c.at.ensures.latest)
