@@ -1,10 +1,10 @@
-//! A world is stopped or failed at each call of a commit or a compaction, and opened again at images of both disks.
+//! A world is stopped or failed at each call of a commit, and opened again at images of its disks.
 
 use crate::World;
 use mol_finish::Format;
 use std::alloc::Global;
 use std::test::Fail;
-use store_core::{Change, CommitFault, Compact, CompactFault, Look, Record, Service};
+use store_core::{Change, CommitFault, Look, Record, Service};
 
 // Registers a SMILES under an identifier.
 fn register(alloc: Global, world: &mut World, id: u32, text: &[u8]) -> Result<u32, CommitFault> {
@@ -53,57 +53,6 @@ fn a_stop_leaves_the_commit_or_not(rt: HostRuntime) -> Result<(), Fail> {
             assert_eq!(rt; register(alloc, &mut world, 2, b"CC=O"), answer, "{calls}");
             let (_, commits) = world.reopen(image)?;
             assert_eq!(rt; commits, left[image as usize], "{calls} {image}");
-        }
-    }
-    Ok(())
-}
-
-// A world with two commits, and a copy of it that lacks nothing.
-fn copied(alloc: Global) -> Result<World, Fail> {
-    let mut world = World::new(alloc, 10)?;
-    if register(alloc, &mut world, 1, b"CCO") != Ok(1) {
-        return Err(Fail::new("not registered"));
-    }
-    if world.compact() != Ok(Compact::More { left: 1 }) {
-        return Err(Fail::new("no copy"));
-    }
-    if register(alloc, &mut world, 2, b"CO") != Ok(2) {
-        return Err(Fail::new("not registered"));
-    }
-    if world.compact() != Ok(Compact::More { left: 0 }) {
-        return Err(Fail::new("not copied"));
-    }
-    Ok(world)
-}
-
-#[test]
-fn a_stop_leaves_the_copy_or_not(rt: HostRuntime) -> Result<(), Fail> {
-    let alloc = rt.alloc();
-    let sure = Err(CompactFault::DiskFault { doubt: false });
-    let doubt = Err(CompactFault::DiskFault { doubt: true });
-    let done = Ok(Compact::Done { generation: 1 });
-    let rows: [(u64, Result<Compact, CompactFault>, [u32; 4]); 5] = [
-        (0, sure, [1, 1, 1, 1]),
-        (1, sure, [1, 1, 1, 1]),
-        (2, doubt, [1, 1, 2, 1]),
-        (3, doubt, [2, 1, 2, 1]),
-        (4, done, [2, 2, 2, 2]),
-    ];
-    for (calls, answer, next) in rows {
-        for image in 0..4 {
-            let mut world = copied(alloc)?;
-            world.stop_after_b(calls);
-            assert_eq!(rt; world.compact(), answer, "{calls}");
-            let (mut world, commits) = world.reopen(image)?;
-            assert_eq!(rt; commits, 2, "{calls} {image}");
-            assert_eq!(rt; world.compact(), Ok(Compact::More { left: 2 }));
-            assert_eq!(rt; world.compact(), Ok(Compact::More { left: 0 }));
-            let generation = next[image as usize];
-            assert_eq!(rt;
-                world.compact(),
-                Ok(Compact::Done { generation }),
-                "{calls} {image}"
-            );
         }
     }
     Ok(())
