@@ -1,9 +1,9 @@
 -- Being better is a strict order, and of two identifiers one is better.
-use Rattle.std.proofs.Common.{◌≡◌, ◌≢◌, ℕ, ◌+◌, ◌*◌, ◌<◌, ◌≤◌, inl, inr, true, false, ap, arith}
+use Rattle.std.proofs.Common.{◌≡◌, ◌≢◌, ℕ, ◌+◌, ◌*◌, ◌<◌, ◌≤◌, inl, inr, true, false, ap, arith, sym, ◌∙◌}
 use Rattle.std.proofs.Math.Nat.{mul-le-mul_left}
 use Rattle.std.proofs.lemmas.Bool.Decides.{nat_tests}
 use Rattle.std.proofs.lemmas.Bool.{cases_lt}
-use Rattle.similar_find.specs.Board.{Offer, is_better}
+use Rattle.similar_find.specs.Board.{Board, Offer, is_better, passes}
 
 -- the same as a fact
 pub record Better (x y : Offer) : Type 0 where
@@ -72,5 +72,28 @@ better-on x y z hx hy hz e f =
           let both = all_equal x.1 y.1 z.1 x.2 y.2 z.2 hx hz p.less q.less same in
           let a = p.tie both.0 in
           let b = q.tie both.1 in
+          omega arith;
+    })
+
+-- a fraction that is no greater than one that does not pass
+pub fails-too : (board : Board) (x y : Offer) → 0 < y.2 → y.1 * x.2 ≤ x.1 * y.2 → passes board x ≡ false
+    → passes board y ≡ false
+fails-too board x y hy le e = elim (cases_lt (y.1 * board.q) (board.p * y.2)) [
+  | inl lt ↦ grind (arith, nat_tests)
+  | inr more ↦
+      let p = least x.1 y.1 board.p x.2 y.2 board.q hy le more in
+      absurd (grind (arith, nat_tests))
+]
+
+-- one that is better than an offer is better than one of no greater fraction under its identifier
+pub better-than-less : (last x y : Offer) → 0 < last.2 → 0 < x.2 → 0 < y.2 → last.0 ≢ y.0 → x.0 ≡ y.0
+    → y.1 * x.2 ≤ x.1 * y.2 → is_better x last ≡ false → is_better last y ≡ true
+better-than-less last x y hl hx hy ne same le e =
+    let p = better-to last x (better-either x last (λ s. ne (sym s ∙ same)) e) in
+    better-from last y (record {
+      less = least last.1 x.1 y.1 last.2 x.2 y.2 hx p.less le;
+      tie = λ f.
+          let both = all_equal last.1 x.1 y.1 last.2 x.2 y.2 hl hy p.less le f in
+          let a = p.tie both.0 in
           omega arith;
     })

@@ -1,12 +1,13 @@
 -- One more that is offered goes to its place among the hits.
-use Rattle.std.proofs.Common.{◌≡◌, ℕ, zero, suc, ◌-◌, ◌<◌, ◌≤◌, Bool, true, false, cond, List, [], ◌∷◌, ◌++◌, length, get_or, take, drop, refl, sym, ap, ◌∙◌, subst, arith}
-use Rattle.std.specs.Prelude.{if◌then◌else◌, Result, Ok, Err}
+use Rattle.std.proofs.lemmas.Option.{get_or_from_slice_get}
+use Rattle.std.proofs.Common.{◌≡◌, ℕ, zero, suc, ◌-◌, ◌<◌, ◌≤◌, Bool, true, false, cond, List, [], ◌∷◌, ◌++◌, length, get_or, take, drop, refl, sym, ap, ◌∙◌, subst, arith, ◌*◌, ◌≢◌, Some}
+use Rattle.std.specs.Prelude.{if◌then◌else◌, Result, Ok, Err, slice_get}
 use Rattle.std.specs.Result.{IsOk, is_ok}
 use Rattle.std.specs.List.{AllByRecursion, insert}
 use Rattle.std.specs.List.Sorted.{IsPartitionedBy, IsPartitionPoint}
 use Rattle.similar_find.specs.Board.{Offer, Board, passes, is_better, AreOffers, IsBest}
-use Rattle.similar_find.proofs.Order.{better-on}
-use Rattle.similar_find.proofs.Ranked.{placed, ranked, AreRanked, HaveBits, offers-bits, all_ranked, ranked-ranked, best-is, best-from}
+use Rattle.similar_find.proofs.Order.{better-on, fails-too, better-than-less}
+use Rattle.similar_find.proofs.Ranked.{placed, ranked, AreRanked, HaveBits, offers-bits, all_ranked, ranked-ranked, best-is, best-from, all_at}
 
 -- the front of a list gives the front of what is placed
 pub take-placed : (n : ℕ) (x : Offer) (ys : List Offer) → take n (placed x (take n ys)) ≡ take n (placed x ys)
@@ -75,17 +76,30 @@ abbrev pub Parts : Offer → List Offer → ℕ → Type 0
 Parts x hits place = IsPartitionedBy (λ y. is_better y x) hits
     → IsPartitionPoint (λ y. is_better y x ≡ true) (λ y. is_better y x ≡ false) hits place
 
+-- the hits are ranked, and what holds of each that is offered holds of each of them
+hits-ranked : (board : Board) (offered : List Offer) → AreOffers offered → IsBest offered board
+    → AreRanked board.hits
+hits-ranked board offered are best =
+    subst AreRanked (sym (best-is board offered are best))
+    (ranked-take board.most (ranked board offered) (ranked-ranked board offered are))
+
+all-hits : (P : Offer → Type 0) (board : Board) (offered : List Offer) → AreOffers offered → IsBest offered board
+    → AllByRecursion P offered → AllByRecursion P board.hits
+all-hits P board offered are best h =
+    subst (AllByRecursion P) (sym (best-is board offered are best))
+    (all_take P board.most (ranked board offered) (all_ranked P board offered h))
+
+hits-parts : (board : Board) (offered : List Offer) (x : Offer) → 0 < x.2 → AreOffers offered → IsBest offered board
+    → IsPartitionedBy (λ y. is_better y x) board.hits
+hits-parts board offered x hx are best =
+    ranked-parts x board.hits hx (all-hits (λ y. 0 < y.2) board offered are best (offers-bits offered are))
+    (hits-ranked board offered are best)
+
 pub at-place : (board : Board) (offered : List Offer) (x : Offer) (place : ℕ) → 0 < x.2 → AreOffers offered
     → IsBest offered board → place ≤ length board.hits → Parts x board.hits place
     → placed x board.hits ≡ take place board.hits ++ x ∷ drop place board.hits
 at-place board offered x place hx are best le parts =
-    let is = best-is board offered are best in
-    let sorted : AreRanked board.hits = subst AreRanked (sym is)
-    (ranked-take board.most (ranked board offered) (ranked-ranked board offered are)) in
-    let bits : HaveBits board.hits = subst HaveBits (sym is)
-    (all_take (λ y. 0 < y.2) board.most (ranked board offered)
-    (all_ranked (λ y. 0 < y.2) board offered (offers-bits offered are))) in
-    let at = parts (ranked-parts x board.hits hx bits sorted) in
+    let at = parts (hits-parts board offered x hx are best) in
     placed-at x board.hits place le (λ k d lt. at.0 k d (omega arith) lt) (λ k d a b. at.1 k d a b)
 
 -- boards that ask the same
@@ -164,3 +178,38 @@ where-behind most x hits le ge at =
 pub where-ok : {T E : Type 0} (r : Result T E) (xs ys : List Offer) → IsOk r → (if is_ok r then xs else ys) ≡ xs
 where-ok (Ok x) xs ys h = refl
 where-ok (Err e) xs ys h = absurd (cc)
+
+-- one that is no greater a fraction than one that does not pass
+pub left-out-below : (board : Board) (offered : List Offer) (x y : Offer) → AreOffers (y ∷ offered)
+    → IsBest offered board → y.1 * x.2 ≤ x.1 * y.2 → passes board x ≡ false → IsBest (y ∷ offered) board
+left-out-below board offered x y are best le fails =
+    passed-over board board offered y (record { p = refl; q = refl; most = refl }) are best
+    (fails-too board x y are.0 le fails) refl
+
+-- one that is no greater a fraction than one that the last hit of a full board is better than
+pub left-out-behind : (board : Board) (offered : List Offer) (x y last : Offer) → 0 < x.2 → x.0 ≡ y.0
+    → AreOffers (y ∷ offered) → IsBest offered board → y.1 * x.2 ≤ x.1 * y.2
+    → length board.hits ≡ board.most → slice_get board.hits (length board.hits - 1) ≡ Some last
+    → is_better x last ≡ false → IsBest (y ∷ offered) board
+left-out-behind board offered x y last hx same are best le full at e =
+    let hits = board.hits in
+    let bits = all_at (λ z. 0 < z.2) hits (length hits - 1) last
+    (all-hits (λ z. 0 < z.2) board offered are.2 best (offers-bits offered are.2)) at in
+    let other = all_at (λ z. z.0 ≢ y.0) hits (length hits - 1) last
+    (all-hits (λ z. z.0 ≢ y.0) board offered are.2 best are.1) at in
+    let worse = better-than-less last x y bits hx are.0 other same le e in
+    let parts = hits-parts board offered y are.0 are.2 best in
+    let behind = placed-at y hits (length hits) (omega arith)
+    (λ k d lt. parts k (length hits - 1) d (omega arith) (omega arith)
+    (ap (λ z. is_better z y) (get_or_from_slice_get hits (length hits - 1) last d at) ∙ worse))
+    (λ k d ge lt. absurd (omega arith)) in
+    by_test (passes board y) refl (where-behind board.most y hits (omega arith) (omega arith)
+    (subst (λ n. placed y hits ≡ take n hits ++ y ∷ drop n hits) full behind))
+  where
+    same-board : AskSame board board
+    same-board = record { p = refl; q = refl; most = refl }
+
+    by_test : (b : Bool) → passes board y ≡ b → board.hits ≡ take board.most (placed y board.hits)
+        → IsBest (y ∷ offered) board
+    by_test false f k = passed-over board board offered y same-board are best f refl
+    by_test true f k = taken-in board board offered y same-board are best f k

@@ -204,7 +204,7 @@ none-better x (y ∷ ys) h =
     let e : 0 + n ≡ 0 = omega arith in
     count-cons (λ z. is_better z x) y ys ∙ ap (λ t. cond t 1 0 + n) (better-turned x y h.0) ∙ e
 
-all_at : (P : Offer → Type 0) (xs : List Offer) (k : ℕ) (x : Offer) → AllByRecursion P xs → slice_get xs k ≡ Some x
+pub all_at : (P : Offer → Type 0) (xs : List Offer) (k : ℕ) (x : Offer) → AllByRecursion P xs → slice_get xs k ≡ Some x
     → P x
 all_at P [] k x h e = absurd (cc)
 all_at P (y ∷ ys) zero x h e = let s : y ≡ x = some-same y x e in subst P s h.0

@@ -1,7 +1,7 @@
 //! The best of what is offered.
-ghost use Rattle.std.specs.Prelude.{◌≡◌, ◌*◌, ◌≤◌, nat_le, true, false, length};
+ghost use Rattle.std.specs.Prelude.{◌≡◌, ◌*◌, ◌-◌, ◌≤◌, nat_le, true, false, length, slice_get, Some};
 ghost use Rattle.std.specs.List.Sorted.{IsPartitionedBy, IsPartitionPoint};
-ghost use Rattle.similar_find.specs.Board.{is_better};
+ghost use Rattle.similar_find.specs.Board.{Offer, is_better};
 
 use std::alloc::{AllocError, Global};
 use std::marker::Model;
@@ -36,8 +36,8 @@ impl Model for Best {
 }
 
 impl Best {
-    ghost use Rattle.std.specs.Prelude.{◌≡◌, ◌<◌, ◌≤◌, [], ◌∷◌, List, IfOk};
-    ghost use Rattle.similar_find.specs.Board.{Offer, AreOffers, IsBest};
+    ghost use Rattle.std.specs.Prelude.{ℕ, ◌≡◌, ◌*◌, ◌<◌, ◌≤◌, [], ◌∷◌, false, List, IfOk};
+    ghost use Rattle.similar_find.specs.Board.{AreOffers, IsBest};
 
     /// Nothing offered yet, with room for `k` hits of at least `p / q`. Fails only for want of memory.
     pub fn reserve(alloc: Global, p: u32, q: u32, k: u32) -> Result<Best, AllocError>
@@ -73,6 +73,21 @@ impl Best {
         let _ = self.hits.insert(place, offer);
     }
 
+    /// Whether an offer under this identifier, of a fraction that is at most `c / u`, may change the hits. Where it may
+    /// not, as where each of `k` hits is better, the hits are the best with it and without it. Takes no memory.
+    pub fn may_take(&self, id: u32, c: u32, u: u32) -> bool
+        requires { 1 ≤ u }
+        ensures same { result ≡ false → (offered : List Offer) (d v : ℕ) → d * u ≤ c * v
+            → AreOffers ((id, d, v) ∷ offered) → IsBest offered self.now
+            → IsBest ((id, d, v) ∷ offered) self.now }
+    {
+        let most = (id, c, u);
+        if !passes(self.p, self.q, &most) {
+            return false;
+        }
+        self.hits.len() < self.most || is_before_last(&self.hits, &most)
+    }
+
     /// The hits, the best first: the best of all that were offered, in whatever order.
     pub fn list(&self) -> &[(u32, u32, u32)]
         ensures { result.now ≡ self.now.hits }
@@ -95,6 +110,18 @@ fn is_better(first: &Offer, second: &Offer) -> bool
     let one = u64::from(first.1) * u64::from(second.2);
     let other = u64::from(second.1) * u64::from(first.2);
     other < one || (one == other && first.0 < second.0)
+}
+
+// Whether the offer is better than the last hit, or there is none.
+fn is_before_last(hits: &[Offer], offer: &Offer) -> bool
+    ensures last { result ≡ false → (last : Offer)
+        × (slice_get hits.now (length hits.now - 1) ≡ Some last)
+        × (is_better offer.now last ≡ false) }
+{
+    match hits.last() {
+        Some(last) => is_better(offer, last),
+        None => true,
+    }
 }
 
 // How many of the hits are better than the offer, where the better ones stand first.

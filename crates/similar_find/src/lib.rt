@@ -8,7 +8,7 @@ mod best;
 mod shared;
 
 pub use best::{Best, MOST_HITS};
-pub use shared::score;
+pub use shared::{most_alike, score};
 
 #[cfg(test)]
 mod tests;

@@ -1,5 +1,5 @@
-//! Hits by hand: a fraction that does not pass, a tie, and a cut.
-use crate::{Best, score};
+//! Hits by hand: a fraction that does not pass, a tie, a cut, and what may be left out.
+use crate::{Best, most_alike, score};
 use chem_core::Print;
 use std::test::Fail;
 
@@ -34,6 +34,33 @@ fn tie_and_cut(rt: HostRuntime) -> Result<(), Fail> {
 }
 
 #[test]
+fn what_no_offer_changes(rt: HostRuntime) -> Result<(), Fail> {
+    let mut best = Best::reserve(rt.alloc(), 1, 2, 2)?;
+    assert!(rt; best.may_take(5, 3, 6));
+    assert!(rt; !best.may_take(5, 3, 7));
+    best.offer(TWO.0, TWO.1, TWO.2);
+    best.offer(FOUR.0, FOUR.1, FOUR.2);
+    assert!(rt; best.may_take(3, 5, 5));
+    assert!(rt; !best.may_take(5, 5, 5));
+    assert!(rt; !best.may_take(3, 5, 6));
+    best.offer(3, 5, 5);
+    assert_eq!(rt; best.list(), [TWO, (3, 5, 5)].as_slice());
+    Ok(())
+}
+
+#[test]
+fn how_alike_prints_can_be(rt: HostRuntime) {
+    for (left, right, most) in [
+        (2, 3, (2, 3)),
+        (3, 2, (2, 3)),
+        (0, 3, (0, 3)),
+        (0, 0, (0, 1)),
+    ] {
+        assert_eq!(rt; most_alike(left, right), most);
+    }
+}
+
+#[test]
 fn bits_of_two_prints(rt: HostRuntime) {
     let mut left = Print::empty();
     left.set(0);
@@ -42,6 +69,6 @@ fn bits_of_two_prints(rt: HostRuntime) {
     let mut right = Print::empty();
     right.set(63);
     right.set(64);
-    assert_eq!(rt; score(&left, &right), (1, 4));
-    assert_eq!(rt; score(&left, &left), (3, 3));
+    assert_eq!(rt; score(&left, left.count(), &right, right.count()), (1, 4));
+    assert_eq!(rt; score(&left, left.count(), &left, left.count()), (3, 3));
 }

@@ -1,41 +1,27 @@
-use Rattle.std.proofs.Common.{◌∙◌, arith, sym}
-use Rattle.similar_find.proofs.Bits.{all-few, counted, shared-all}
+use Rattle.std.proofs.Common.{◌∙◌, sym}
+use Rattle.similar_find.proofs.Bits.{scored}
 use Rattle.similar_find.proofs.shared.score.Goals as goal
 
 pub overflow_sub-result : goal.overflow_sub-result
 overflow_sub-result c =
-    let left = c.args.left.now in
-    let right = c.args.right.now in
-    let sum = counted left right (c.count.ensures.length ∙ sym c.count-2.ensures.length) in
-    omega (arith, sum, c.count.ensures.value, c.count-2.ensures.value, c.count_shared-shared.ensures.value)
+    (scored c.args.left.now c.args.right.now c.args.left_bits c.args.right_bits c.count_shared-shared.result
+    (c.count_shared-shared.ensures.length ∙ sym c.has.ensures.length) c.requires.left c.requires.right
+    c.count_shared-shared.ensures.value).within
 
 pub returns-clause-all : goal.returns-clause-all
 returns-clause-all c =
-    let left = c.args.left.now in
-    let right = c.args.right.now in
-    let sum = counted left right (c.count.ensures.length ∙ sym c.count-2.ensures.length) in
-    omega (arith, sum, c.count.ensures.value, c.count-2.ensures.value, c.count_shared-shared.ensures.value)
+    (scored c.args.left.now c.args.right.now c.args.left_bits c.args.right_bits c.count_shared-shared.result
+    (c.count_shared-shared.ensures.length ∙ sym c.has.ensures.length) c.requires.left c.requires.right
+    c.count_shared-shared.ensures.value).all
 
 pub returns-clause-part : goal.returns-clause-part
 returns-clause-part c =
-    let left = c.args.left.now in
-    let right = c.args.right.now in
-    let sum = counted left right (c.count.ensures.length ∙ sym c.count-2.ensures.length) in
-    let part = shared-all left right in
-    omega (arith, sum, part, c.count.ensures.value, c.count-2.ensures.value, c.count_shared-shared.ensures.value)
+    (scored c.args.left.now c.args.right.now c.args.left_bits c.args.right_bits c.count_shared-shared.result
+    (c.count_shared-shared.ensures.length ∙ sym c.has.ensures.length) c.requires.left c.requires.right
+    c.count_shared-shared.ensures.value).part
 
 pub returns-clause-few : goal.returns-clause-few
 returns-clause-few c =
-    let left = c.args.left.now in
-    let right = c.args.right.now in
-    let sum = counted left right (c.count.ensures.length ∙ sym c.count-2.ensures.length) in
-    let few = all-few left right in
-    omega (
-      arith,
-      sum,
-      few,
-      c.count.ensures.length,
-      c.count.ensures.value,
-      c.count-2.ensures.value,
-      c.count_shared-shared.ensures.value,
-    )
+    rw (sym c.count_shared-shared.ensures.length) (scored c.args.left.now c.args.right.now c.args.left_bits
+    c.args.right_bits c.count_shared-shared.result (c.count_shared-shared.ensures.length ∙ sym c.has.ensures.length)
+    c.requires.left c.requires.right c.count_shared-shared.ensures.value).few
