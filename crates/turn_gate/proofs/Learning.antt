@@ -1,5 +1,5 @@
--- A look after a join keeps the rule, and tells how both parts stand in what was seen.
-use Rattle.std.proofs.Common.{◌≡◌, ℕ, ◌+◌, List, [], ◌∷◌, ◌++◌, length, set, get_or, refl, ap, sym, ◌∙◌, subst, inl, inr, ⊎_elim, arith, Option, length-append}
+-- A look after a join, or before a split, keeps the rule. After a join it tells how both parts stand in what was seen.
+use Rattle.std.proofs.Common.{◌≡◌, ℕ, ◌+◌, List, [], ◌∷◌, ◌++◌, length, set, get_or, refl, ap, ap₂, sym, ◌∙◌, subst, inl, inr, ⊎_elim, arith, Option, length-append}
 use Rattle.atomic_table.specs.Table.{Step, keeps, Allows}
 use Rattle.turn_gate.specs.declared.known.Known.{Known}
 use Rattle.turn_gate.specs.Numbers.{own, longer, times}
@@ -8,7 +8,7 @@ use Rattle.turn_gate.specs.Steps.{Sat, sat, Learns, PartsSeen, settled, joined}
 use Rattle.turn_gate.specs.declared.gate.Gate.{Gate}
 use Rattle.turn_gate.specs.declared.gate.Pass.{Pass}
 use Rattle.turn_gate.specs.Passes.{IsOf, Merged, known, sat_of}
-use Rattle.turn_gate.proofs.Lists.{refits, cuts, of_front, longer_than, longer_is, single_is}
+use Rattle.turn_gate.proofs.Lists.{refits, cuts, of_front, longer_than, longer_is, empty_is, single_is}
 use Rattle.turn_gate.proofs.Seats.{at_still}
 
 module _ {E : Type 0} (number : E → ℕ) where
@@ -85,6 +85,18 @@ both_are {O} o xs ys one two all =
       ap (λ (z : O). z ∷ []) (sym here.0) ∙ sym x.1,
       ap (λ (z : O). z ∷ []) (sym here.1.0) ∙ sym y.1,
     )
+
+-- a look without a join before it leaves what the pass knows
+pub unchanged : {V E O : Type 0} (number : E → ℕ) (g : Gate V E O) (p : Pass V E O) (st : Step (Option V)) (found : ℕ)
+    (n : Sat V E O) → IsOf g p → Learns number st (sat_of p) found n → n ≡ sat_of p
+unchanged {V} {E} {O} number g p st found n of learned =
+    let v : Known V E O = known p in
+    let o = single_is v.origin of.placed in
+    let here : AreAll learned.origin (o.0 ∷ []) = subst (λ (l : List O). AreAll learned.origin l) o.1 learned.one in
+    let origin : learned.origin ∷ [] ≡ v.origin = ap (λ (z : O). z ∷ []) (sym here.0) ∙ sym o.1 in
+    let parts : [] ≡ v.parts = sym (empty_is v.parts of.settled) in
+    learned.is ∙ ap₂ (λ (os : List O) (ps : List (List ℕ × List E)).
+    sat (record v { origin = os; parts = ps }) (sat_of p).1) origin parts
 
 module _ {V E O : Type 0} (number : E → ℕ) (g : Gate V E O) (p o q : Pass V E O) (l : Sat V E O)
     (st : Step (Option V)) (found : ℕ) where

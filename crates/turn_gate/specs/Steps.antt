@@ -121,7 +121,7 @@ PartsSeen {E} number seen (p ∷ ps) =
     × PartsSeen number seen ps
 
 -- after a join: the origin of both parts is one, and how they stand in what was seen.
--- The root pass also learns that no event names a number that was not given
+-- The root pass also learns that no event names a number that was not given, and looks so before a split too
 pub record Learns {V E O : Type 0} (number : E → ℕ) (s : Step (Option V)) (m : Sat V E O) (found : ℕ) (n : Sat V E O)
     : Type 0 where
   pub origin : O

@@ -1,5 +1,6 @@
 //! The gate and its passes.
-ghost use Rattle.std.specs.Prelude.{◌≡◌, ◌<◌, ◌≤◌, ◌^◌, [], IfOk, IfErr};
+ghost use Rattle.std.specs.Prelude.{◌≡◌, ◌<◌, ◌≤◌, ◌^◌, [], ◌∷◌, IfOk, IfErr};
+ghost use Rattle.turn_gate.specs.Numbers.{own};
 ghost use Rattle.turn_gate.specs.Steps.{giving, given_to};
 
 use crate::known::Known;
@@ -99,6 +100,7 @@ impl<V: Stands> Gate<V> {
     }
 
     /// The root pass gives the next number to a new pass, which has seen what it had seen.
+    /// None of these events names that number.
     pub fn split(&self, pass: &mut Pass<V>) -> Pass<V>
         requires of { IsOf self.now pass.old }
         requires root { IsRoot pass.old }
@@ -106,7 +108,9 @@ impl<V: Stands> Gate<V> {
         ensures other { IsOf self.now result }
         ensures gives { known pass.new ≡ giving (known pass.old) }
         ensures given { known result ≡ given_to (known pass.old) }
+        ensures fresh { own V.number (known result).numbers (known result).seen ≡ [] }
     {
+        self.see_fresh(pass);
         Pass {
             seat: self.table.shared.split_seat::<Cut>(&mut pass.seat),
         }
@@ -142,6 +146,18 @@ impl<V: Stands> Gate<V> {
         let value = closed.take(0).unwrap();
         closed.free();
         value
+    }
+
+    // The root pass learns that no event that it has seen names the number that it gives next. Nothing else
+    // changes.
+    fn see_fresh(&self, pass: &mut Pass<V>)
+        requires of { IsOf self.now pass.old }
+        requires root { IsRoot pass.old }
+        ensures same { pass.new.seat.table_id ≡ pass.old.seat.table_id }
+        ensures knows { pass.new.seat.me ≡ pass.old.seat.me }
+        ensures fresh { own V.number ((known pass.old).given ∷ []) (known pass.old).seen ≡ [] }
+    {
+        self.table.shared.load::<Learn<V>>(&mut pass.seat, COUNT);
     }
 
     // Takes the holder word, sees the whole history and takes the value.

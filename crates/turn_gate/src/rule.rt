@@ -83,7 +83,8 @@ impl<V, E, O> Play<Option<V>, Known<V, E, O>> for Release {
     ghost then = { Releases };
 }
 
-/// How both parts of a joined pass stand in what it has seen.
+/// How both parts of a joined pass stand in what it has seen. To the root pass, that no event names a number that was
+/// not given.
 pub struct Learn<V> {
     of: PhantomData<V>,
 }
