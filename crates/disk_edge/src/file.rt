@@ -3,6 +3,7 @@
 
 ghost use Rattle.std.specs.Prelude.{◌≡◌};
 ghost use Rattle.disk_edge.specs.File as silent;
+ghost use Rattle.disk_edge.specs.Untold.{in_parts};
 
 use crate::disk::{Disk, DiskFail};
 use std::fs;
@@ -100,7 +101,7 @@ impl Disk for FileDisk {
 
     ghost only_now = { λ _ _ _. tt };
 
-    ghost parts = { silent.in_parts };
+    ghost parts = { in_parts };
 
     ghost whole = { λ _ _ _ _ _ _ _ _ _. tt };
 
