@@ -1,17 +1,18 @@
 -- Bytes that gather behind those that were written.
-use Rattle.std.proofs.Common.{◌≡◌, ◌-◌, ◌+◌, ◌++◌, [], ℕ, List, length, Option, sym, ◌∙◌, ap, arith, append_assoc, length-append}
+use Rattle.std.proofs.Common.{◌≡◌, ◌-◌, ◌+◌, ◌++◌, [], ℕ, List, length, sym, ◌∙◌, ap, arith, append_assoc, length-append}
 use Rattle.std.proofs.lemmas.List.{append-nil}
+use Rattle.disk_edge.specs.Disk.{DiskModel}
 use Rattle.compact_core.specs.Copies.{Gathered, Stands}
 
-module _ (content : Option (List ℕ)) (images : List ℕ → Type 0) (gate : ℕ) (tail pending : List ℕ)
-    (g : Gathered content images gate tail pending) where
+module _ {D : Type 0} (model : DiskModel D) (disk : D) (gate : ℕ) (tail pending : List ℕ)
+    (g : Gathered model disk gate tail pending) where
   -- where what was written ends
   pub written_end : (place : ℕ) → place ≡ length tail + 1 → place - length pending ≡ length g.written + 1
   written_end place at = omega (arith, at, ap length g.is, length-append g.written pending)
 
   -- bytes that are pending too
   pub more_pending : (bytes longer more : List ℕ) → longer ≡ tail ++ bytes → more ≡ pending ++ bytes
-      → Gathered content images gate longer more
+      → Gathered model disk gate longer more
   more_pending bytes longer more longer_is more_is = record {
     written = g.written;
     stands = g.stands;
@@ -19,10 +20,10 @@ module _ (content : Option (List ℕ)) (images : List ℕ → Type 0) (gate : �
         ∙ ap (λ (l : List ℕ). l ++ bytes) g.is ∙ sym longer_is;
   }
 
-  module _ (new : Option (List ℕ)) (after : List ℕ → Type 0) where
+  module _ (new : D) where
     -- a call that leaves what stood
-    pub still_pending : (same : List ℕ) → same ≡ pending → Stands new after gate g.written
-        → Gathered new after gate tail same
+    pub still_pending : (same : List ℕ) → same ≡ pending → Stands (model.content new) (model.images new) gate g.written
+        → Gathered model new gate tail same
     still_pending same is s = record {
       written = g.written;
       stands = s;
@@ -30,8 +31,8 @@ module _ (content : Option (List ℕ)) (images : List ℕ → Type 0) (gate : �
     }
 
     -- a write of what was pending
-    pub none_pending : (bytes none : List ℕ) → bytes ≡ pending → none ≡ [] → Stands new after gate (g.written ++ bytes)
-        → Gathered new after gate tail none
+    pub none_pending : (bytes none : List ℕ) → bytes ≡ pending → none ≡ []
+        → Stands (model.content new) (model.images new) gate (g.written ++ bytes) → Gathered model new gate tail none
     none_pending bytes none bytes_is none_is s = record {
       written = g.written ++ bytes;
       stands = s;

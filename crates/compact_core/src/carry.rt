@@ -1,13 +1,13 @@
 //! A running copy. The calls read in the order of an atomic change: the gate of the header is closed and synced; the
-//! copy is written behind it; a closed gate is written at its end, and all is synced; then the header's gate is opened.
+//! copy is gathered and written behind it; the last of it is written with a closed gate, and all is synced; then the
+//! header's gate is opened.
 
 ghost use Rattle.std.specs.Prelude.{◌≡◌, ◌<◌, ◌≤◌, ◌+◌, ◌^◌, ◌⊎◌, ◌++◌, [], ◌∷◌, ℕ, List, None, Some, true, false, length, OnOk, OnErr, IfOk, IfErr};
 ghost use Rattle.disk_edge.specs.Disk.{IfTold, Keeps, OnFailed, Counted, Faulted};
 ghost use Rattle.disk_edge.specs.Moments.{AtEachMoment};
 ghost use Rattle.journal_core.specs.Fronts.{IsOpen, IsShut, behind_gate, front_of};
 ghost use Rattle.journal_core.specs.Journal.{Rests};
-ghost use Rattle.journal_core.specs.Records.{IsShort, body};
-ghost use Rattle.journal_core.specs.declared.format.TheConstants.{OPEN};
+ghost use Rattle.journal_core.specs.Records.{IsShort};
 ghost use Rattle.compact_core.specs.Answers.{OnDoubt, OnMemory, OnSure, disk_after_finish, disk_after_start};
 ghost use Rattle.compact_core.specs.Copies.{Copies, InDoubt, IsCopyOrShut, Started};
 
@@ -196,8 +196,8 @@ impl<D: Disk> Carry<D> {
         Ok(())
     }
 
-    /// Ends the copy, all of whose base records stand. What is pending is written with the closed gate. At `Ok` the disk
-    /// has all of the copy, each image is the complete one, and the journal may be appended to behind it. At every
+    /// Ends the copy, all of whose base records stand. What is pending is written with the closed gate. At `Ok` the
+    /// disk has all of the copy, each image is the complete one, and the journal may be appended to behind it. At every
     /// moment each image is that or not open.
     pub fn finish(self) -> Result<Journal<D>, FinishFault<D>>
         requires whole { self.bases ≡ self.header.base_count }

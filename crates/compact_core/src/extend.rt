@@ -39,7 +39,7 @@ pub(crate) fn extend<D: Disk>(disk: &mut D, place: u64, bytes: &[u8]) -> Result<
     disk.write_at(place, bytes)
 }
 
-/// Writes what is pending and a closed gate at the end of what stands, and syncs. It is pending still.
+/// Writes what is pending and a closed gate behind it, at the end of what stands, and syncs. `pending` stays as it was.
 pub(crate) fn seal<D: Disk>(disk: &mut D, place: u64, pending: &mut Vec<u8>) -> Result<(), DiskFail>
     requires start { IfTold (D.model.content disk.old)
         (λ l. place ≤ length l + length pending.old.items) }
@@ -47,8 +47,7 @@ pub(crate) fn seal<D: Disk>(disk: &mut D, place: u64, pending: &mut Vec<u8>) -> 
     requires end { place + 1 < 2 ^ 63 }
 
     ensures ok { OnOk result ((gate : ℕ) (tail : List ℕ)
-        → Gathered (D.model.content disk.old) (D.model.images disk.old) gate tail pending.old.items
-        → place ≡ length tail + 1
+        → Gathered D.model disk.old gate tail pending.old.items → place ≡ length tail + 1
         → Stands (D.model.content disk.new) (D.model.images disk.new) gate (tail ++ CLOSED ∷ [])) }
     ensures synced { OnOk result
         (IfTold (D.model.content disk.new) (λ l. Exactly l (D.model.images disk.new))) }
@@ -57,13 +56,10 @@ pub(crate) fn seal<D: Disk>(disk: &mut D, place: u64, pending: &mut Vec<u8>) -> 
         (λ l. place ≤ length l + length pending.old.items) }
     ensures pending { pending.new.items ≡ pending.old.items }
     ensures stays { (gate : ℕ) (tail : List ℕ)
-        → Gathered (D.model.content disk.old) (D.model.images disk.old) gate tail pending.old.items
-        → place ≡ length tail + 1
-        → Gathered (D.model.content disk.new) (D.model.images disk.new) gate tail
-        pending.old.items }
+        → Gathered D.model disk.old gate tail pending.old.items → place ≡ length tail + 1
+        → Gathered D.model disk.new gate tail pending.old.items }
     ensures moments { (gate : ℕ) (tail : List ℕ)
-        → Gathered (D.model.content disk.old) (D.model.images disk.old) gate tail pending.old.items
-        → place ≡ length tail + 1
+        → Gathered D.model disk.old gate tail pending.old.items → place ≡ length tail + 1
         → AtEachMoment D.model disk.old disk.new (λ c. take 1 c ≡ gate ∷ []) }
     ensures told { IfTold (D.model.content disk.old)
         (λ _. (l : List ℕ) × (D.model.content disk.new ≡ Some l)) }
@@ -76,7 +72,7 @@ pub(crate) fn seal<D: Disk>(disk: &mut D, place: u64, pending: &mut Vec<u8>) -> 
     disk.sync()
 }
 
-// Writes what is pending and a closed gate at the end of what stands. It is pending still.
+// Writes what is pending and a closed gate behind it in one call. It is not synced.
 fn extend_closed<D: Disk>(disk: &mut D, place: u64, pending: &mut Vec<u8>) -> Result<(), DiskFail>
     requires start { IfTold (D.model.content disk.old)
         (λ l. place ≤ length l + length pending.old.items) }
@@ -84,21 +80,17 @@ fn extend_closed<D: Disk>(disk: &mut D, place: u64, pending: &mut Vec<u8>) -> Re
     requires end { place + 1 < 2 ^ 63 }
 
     ensures ok { OnOk result ((gate : ℕ) (tail : List ℕ)
-        → Gathered (D.model.content disk.old) (D.model.images disk.old) gate tail pending.old.items
-        → place ≡ length tail + 1
+        → Gathered D.model disk.old gate tail pending.old.items → place ≡ length tail + 1
         → Stands (D.model.content disk.new) (D.model.images disk.new) gate (tail ++ CLOSED ∷ [])) }
     ensures reaches { OnOk result (IfTold (D.model.content disk.new) (λ l. place < length l)) }
     ensures long { IfTold (D.model.content disk.new)
         (λ l. place ≤ length l + length pending.old.items) }
     ensures pending { pending.new.items ≡ pending.old.items }
     ensures stays { (gate : ℕ) (tail : List ℕ)
-        → Gathered (D.model.content disk.old) (D.model.images disk.old) gate tail pending.old.items
-        → place ≡ length tail + 1
-        → Gathered (D.model.content disk.new) (D.model.images disk.new) gate tail
-        pending.old.items }
+        → Gathered D.model disk.old gate tail pending.old.items → place ≡ length tail + 1
+        → Gathered D.model disk.new gate tail pending.old.items }
     ensures moments { (gate : ℕ) (tail : List ℕ)
-        → Gathered (D.model.content disk.old) (D.model.images disk.old) gate tail pending.old.items
-        → place ≡ length tail + 1
+        → Gathered D.model disk.old gate tail pending.old.items → place ≡ length tail + 1
         → AtEachMoment D.model disk.old disk.new (λ c. take 1 c ≡ gate ∷ []) }
     ensures told { IfTold (D.model.content disk.old)
         (λ _. (l : List ℕ) × (D.model.content disk.new ≡ Some l)) }

@@ -12,10 +12,11 @@ use crate::extend::extend;
 use disk_edge::{Disk, DiskFail};
 use journal_core::OPEN;
 
-/// Records that would make what is pending longer than this wait until it is written.
+// How many bytes gather before they are written. A longer record gathers alone.
 const GATHERED: usize = 65_536;
 
-/// Makes room for `more` bytes behind what is pending, which is written first where it would grow beyond `GATHERED`.
+/// Makes room for `more` bytes behind what is pending. Where it would grow beyond `GATHERED`, it is written first, and
+/// its memory is kept. What a refused write did not write is pending still.
 pub(crate) fn make_room<D: Disk>(
     disk: &mut D,
     place: u64,
@@ -30,13 +31,10 @@ pub(crate) fn make_room<D: Disk>(
 
     ensures room { OnOk result (vec_len pending.new + more ≤ vec_capacity pending.new) }
     ensures stays { (gate : ℕ) (tail : List ℕ)
-        → Gathered (D.model.content disk.old) (D.model.images disk.old) gate tail pending.old.items
-        → place ≡ length tail + 1
-        → Gathered (D.model.content disk.new) (D.model.images disk.new) gate tail
-        pending.new.items }
+        → Gathered D.model disk.old gate tail pending.old.items → place ≡ length tail + 1
+        → Gathered D.model disk.new gate tail pending.new.items }
     ensures moments { (gate : ℕ) (tail : List ℕ)
-        → Gathered (D.model.content disk.old) (D.model.images disk.old) gate tail pending.old.items
-        → place ≡ length tail + 1
+        → Gathered D.model disk.old gate tail pending.old.items → place ≡ length tail + 1
         → AtEachMoment D.model disk.old disk.new (λ c. take 1 c ≡ gate ∷ []) }
     ensures long { IfTold (D.model.content disk.new)
         (λ l. place ≤ length l + length pending.new.items) }
@@ -54,7 +52,7 @@ pub(crate) fn make_room<D: Disk>(
     Ok(())
 }
 
-/// A payload behind its length is pending too. There is room for it.
+/// Appends a payload behind its length to what is pending. There is room for it.
 pub(crate) fn push_base(pending: &mut Vec<u8>, payload: &[u8])
     requires few { IsShort payload.now }
     requires room { vec_len pending.old + 4 + length payload.now ≤ vec_capacity pending.old }

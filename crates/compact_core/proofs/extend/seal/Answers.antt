@@ -28,8 +28,8 @@ returns-clause-stays g c gate tail gathered at =
     let mid = c.extend_closed.new.disk in
     let new = c.sync.new.self in
     let left = c.in_ok-extend_closed.ensures.stays gate tail gathered at in
-    still_pending (d.content mid) (d.images mid) gate tail c.args.pending.now.items left (d.content new) (d.images new)
-    c.args.pending.now.items refl (stands_still (d.content mid) (d.content new) (d.images mid) (d.images new) gate left.written
+    still_pending d mid gate tail c.args.pending.now.items left new c.args.pending.now.items refl
+    (stands_still (d.content mid) (d.content new) (d.images mid) (d.images new) gate left.written
     c.sync.ensures.content c.sync.ensures.no_new left.stands)
 
 pub returns-clause-moments : goal.returns-clause-moments

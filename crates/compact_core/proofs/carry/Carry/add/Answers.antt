@@ -18,14 +18,14 @@ returns-clause-ok g c base commits q =
     let r = subst (λ (k : Carrying g.row.D.Denot). Copies d k base commits) (sym c.self.view_is) q in
     let h = c.self.inside.header in
     let p = c.args.payload.now in
-    let new = c.make_room.new.disk in
     let tail = tail_of h base commits in
     record {
       gate = r.gate;
       shut = r.shut;
-      gathered = more_pending (d.content new) (d.images new) r.gate tail c.make_room.new.pending.items
-          (c.make_room.ensures.stays r.gate tail r.gathered r.place) (OPEN ∷ body p) (tail_of h base (commits ++ p ∷ []))
-          c.push_commit.new.pending.items (add_tail h base commits p) c.push_commit.ensures;
+      gathered = more_pending d c.make_room.new.disk r.gate tail c.make_room.new.pending.items
+          (c.make_room.ensures.stays r.gate tail r.gathered r.place) (OPEN ∷ body p)
+          (tail_of h base (commits ++ p ∷ [])) c.push_commit.new.pending.items (add_tail h base commits p)
+          c.push_commit.ensures;
       place = omega (arith, r.place, length-add_tail h base commits p);
       bases = r.bases;
       fit = r.fit;

@@ -56,10 +56,9 @@ returns-in-Err-NoMemory-put-clause-memory g c base commits q =
     record {
       gate = r.gate;
       shut = r.shut;
-      gathered = still_pending (d.content mid) (d.images mid) r.gate tail c.carry.inside.pending.items left
-          (d.content new) (d.images new) c.seal.new.pending.items c.seal.ensures.pending
-          (stands_still (d.content mid) (d.content new) (d.images mid) (d.images new) r.gate left.written still
-          same.no_more left.stands);
+      gathered = still_pending d mid r.gate tail c.carry.inside.pending.items left new c.seal.new.pending.items
+          c.seal.ensures.pending (stands_still (d.content mid) (d.content new) (d.images mid) (d.images new) r.gate
+          left.written still same.no_more left.stands);
       place = r.place;
       bases = r.bases;
       fit = r.fit;
