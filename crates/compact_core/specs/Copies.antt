@@ -18,6 +18,12 @@ pub record Stands (content : Option (List ℕ)) (images : List ℕ → Type 0) (
   pub is_told : content ≡ Some (gate ∷ (tail ++ rest))
   pub each : (c : List ℕ) → images c → take 1 c ≡ gate ∷ []
 
+-- These bytes are behind a gate: those that were written stand on the disk, and the last of them are pending.
+pub record Gathered {D : Type 0} (model : DiskModel D) (disk : D) (gate : ℕ) (tail pending : List ℕ) : Type 0 where
+  pub written : List ℕ
+  pub stands : Stands (model.content disk) (model.images disk) gate written
+  pub is : written ++ pending ≡ tail
+
 -- The header stands behind a gate that is not open.
 pub record Started (content : Option (List ℕ)) (images : List ℕ → Type 0) (h : Header) : Type 0 where
   pub gate : ℕ
@@ -29,7 +35,7 @@ pub record Copies {D : Type 0} (model : DiskModel D) (carry : Carrying D) (base 
     : Type 0 where
   pub gate : ℕ
   pub shut : gate ≢ OPEN
-  pub stands : Stands (model.content carry.disk) (model.images carry.disk) gate (tail_of carry.header base commits)
+  pub gathered : Gathered model carry.disk gate (tail_of carry.header base commits) carry.pending
   pub place : carry.place ≡ length (tail_of carry.header base commits) + 1
   pub bases : carry.bases ≡ length base
   pub fit : AllByRecursion IsShort base

@@ -1,18 +1,19 @@
 //! A running copy. The calls read in the order of an atomic change: the gate of the header is closed and synced; the
-//! copy is written behind it; a closed gate is written at its end, and all is synced; then the header's gate is opened.
+//! copy is gathered and written behind it; the last of it is written with a closed gate, and all is synced; then the
+//! header's gate is opened.
 
 ghost use Rattle.std.specs.Prelude.{◌≡◌, ◌<◌, ◌≤◌, ◌+◌, ◌^◌, ◌⊎◌, ◌++◌, [], ◌∷◌, ℕ, List, None, Some, true, false, length, OnOk, OnErr, IfOk, IfErr};
 ghost use Rattle.disk_edge.specs.Disk.{IfTold, Keeps, OnFailed, Counted, Faulted};
 ghost use Rattle.disk_edge.specs.Moments.{AtEachMoment};
 ghost use Rattle.journal_core.specs.Fronts.{IsOpen, IsShut, behind_gate, front_of};
 ghost use Rattle.journal_core.specs.Journal.{Rests};
-ghost use Rattle.journal_core.specs.Records.{IsShort, body};
-ghost use Rattle.journal_core.specs.declared.format.TheConstants.{OPEN};
+ghost use Rattle.journal_core.specs.Records.{IsShort};
 ghost use Rattle.compact_core.specs.Answers.{OnDoubt, OnMemory, OnSure, disk_after_finish, disk_after_start};
 ghost use Rattle.compact_core.specs.Copies.{Copies, InDoubt, IsCopyOrShut, Started};
 
 use crate::closing::close;
 use crate::extend::{extend, seal};
+use crate::gather::{make_room, push_base, push_commit};
 use disk_edge::{Disk, DiskFail, MemDisk};
 use journal_core::{Header, Journal, OPEN, put};
 use std::alloc::{AllocError, Global};
@@ -45,6 +46,7 @@ pub enum FinishFault<D: Disk> {
 }
 
 /// A running copy on a disk that is shut. It has a header, as many base records as the header says, and then commits.
+/// The last of its bytes are pending: they wait in memory, behind those that were written.
 #[derive(Drop)]
 pub struct Carry<D: Disk> {
     alloc: Global,
@@ -52,6 +54,7 @@ pub struct Carry<D: Disk> {
     header: Header,
     place: u64,
     bases: u32,
+    pending: Vec<u8>,
 }
 
 impl<D: Disk> Model for Carry<D> {
@@ -66,10 +69,12 @@ impl<D: Disk> Model for Carry<D> {
       header = c.header;
       place = c.place;
       bases = c.bases;
+      pending = c.pending.items;
     } };
 
-    ghost invariant = { λ c. IfTold (D.model.content c.disk) (λ l. c.place ≤ length l)
-        × (c.place ≤ 2 ^ 62 + 1048581) };
+    ghost invariant = { λ c. IfTold (D.model.content c.disk)
+        (λ l. c.place ≤ length l + length c.pending.items)
+        × (length c.pending.items ≤ c.place) × (c.place ≤ 2 ^ 62 + 1048581) };
 }
 
 impl<D: Disk> Carry<D> {
@@ -111,14 +116,16 @@ impl<D: Disk> Carry<D> {
                 header,
                 place: 20,
                 bases: 0,
+                pending: Vec::new(alloc),
             }),
             Err(DiskFail::Failed) => Err((CopyFault::Sure, disk)),
             Err(DiskFail::NoMemory) => Err((CopyFault::NoMemory, disk)),
         }
     }
 
-    /// Writes the next base record, a payload of 1 to 1,048,576 bytes. Fewer stand than the header says. After a
-    /// refusal the copy stands where it stood. The disk stays shut. `Failed`: the disk failed, and counted a fault.
+    /// Adds the next base record, a payload of 1 to 1,048,576 bytes. Fewer stand than the header says. It may wait in
+    /// memory, and is written with others. After a refusal the copy stands where it stood. The disk stays shut.
+    /// `Failed`: the disk failed, and counted a fault.
     pub fn put(&mut self, payload: &[u8]) -> Result<(), DiskFail>
         requires left { self.old.bases < self.old.header.base_count }
         requires some { 1 ≤ length payload.now }
@@ -145,15 +152,17 @@ impl<D: Disk> Carry<D> {
         ensures past { Keeps D.model self.old.disk self.new.disk }
         ensures count { Counted D.model self.old.disk self.new.disk }
     {
-        let bytes = base_bytes(self.alloc, payload)?;
-        extend(&mut self.disk, self.place, &bytes)?;
-        self.place += 4 + payload.len() as u64;
+        let more = 4 + payload.len();
+        make_room(&mut self.disk, self.place, &mut self.pending, more)?;
+        push_base(&mut self.pending, payload);
+        self.place += more as u64;
         self.bases += 1;
         Ok(())
     }
 
-    /// Writes the next commit, a payload of 1 to 1,048,576 bytes, with an open gate. All base records stand. After a
-    /// refusal the copy stands where it stood. The disk stays shut. `Failed`: the disk failed, and counted a fault.
+    /// Adds the next commit, a payload of 1 to 1,048,576 bytes, with an open gate. All base records stand. It may wait
+    /// in memory, and is written with others. After a refusal the copy stands where it stood. The disk stays shut.
+    /// `Failed`: the disk failed, and counted a fault.
     pub fn add(&mut self, payload: &[u8]) -> Result<(), DiskFail>
         requires whole { self.old.bases ≡ self.old.header.base_count }
         requires some { 1 ≤ length payload.now }
@@ -180,14 +189,16 @@ impl<D: Disk> Carry<D> {
         ensures past { Keeps D.model self.old.disk self.new.disk }
         ensures count { Counted D.model self.old.disk self.new.disk }
     {
-        let bytes = commit_bytes(self.alloc, payload)?;
-        extend(&mut self.disk, self.place, &bytes)?;
-        self.place += 5 + payload.len() as u64;
+        let more = 5 + payload.len();
+        make_room(&mut self.disk, self.place, &mut self.pending, more)?;
+        push_commit(&mut self.pending, payload);
+        self.place += more as u64;
         Ok(())
     }
 
-    /// Ends the copy, all of whose base records stand. At `Ok` each image is the complete copy, and the journal may be
-    /// appended to behind it. At every moment each image is that or not open.
+    /// Ends the copy, all of whose base records stand. What is pending is written with the closed gate. At `Ok` the
+    /// disk has all of the copy, each image is the complete one, and the journal may be appended to behind it. At every
+    /// moment each image is that or not open.
     pub fn finish(self) -> Result<Journal<D>, FinishFault<D>>
         requires whole { self.bases ≡ self.header.base_count }
 
@@ -222,7 +233,7 @@ impl<D: Disk> Carry<D> {
         ensures count { Counted D.model self.disk (disk_after_finish result) }
     {
         let mut carry = self;
-        match seal(&mut carry.disk, carry.place) {
+        match seal(&mut carry.disk, carry.place, &mut carry.pending) {
             Ok(()) => {}
             Err(DiskFail::Failed) => return Err(FinishFault::Sure(carry.disk)),
             Err(DiskFail::NoMemory) => return Err(FinishFault::Memory(carry)),
@@ -234,14 +245,14 @@ impl<D: Disk> Carry<D> {
         }
     }
 
-    /// The length of the copy so far. Takes no memory.
+    /// The length of the copy so far, with what is pending. Takes no memory.
     pub fn place(&self) -> u64
         ensures { result ≡ self.now.place }
     {
         self.place
     }
 
-    /// The disk, as it is, so shut. Takes no memory.
+    /// The disk, as it is, so shut. What is pending is dropped. Takes no memory.
     pub fn into_disk(self) -> D
         ensures disk { result ≡ self.disk }
         ensures shut { (base commits : List (List ℕ))
@@ -309,28 +320,5 @@ fn header_bytes(alloc: Global, header: Header) -> Result<Vec<u8>, AllocError>
     bytes.extend_from_slice(&header.generation.to_le_bytes())?;
     bytes.extend_from_slice(&header.base_version.to_le_bytes())?;
     bytes.extend_from_slice(&header.base_count.to_le_bytes())?;
-    Ok(bytes)
-}
-
-// A payload behind its length.
-fn base_bytes(alloc: Global, payload: &[u8]) -> Result<Vec<u8>, AllocError>
-    requires { IsShort payload.now }
-    ensures { IfOk result (λ bytes. bytes.items ≡ body payload.now) }
-{
-    let mut bytes = Vec::with_capacity(alloc, payload.len() + 4)?;
-    bytes.extend_from_slice(&(payload.len() as u32).to_le_bytes())?;
-    bytes.extend_from_slice(payload)?;
-    Ok(bytes)
-}
-
-// The same behind an open gate.
-fn commit_bytes(alloc: Global, payload: &[u8]) -> Result<Vec<u8>, AllocError>
-    requires { IsShort payload.now }
-    ensures { IfOk result (λ bytes. bytes.items ≡ OPEN ∷ body payload.now) }
-{
-    let mut bytes = Vec::with_capacity(alloc, payload.len() + 5)?;
-    bytes.push(OPEN)?;
-    bytes.extend_from_slice(&(payload.len() as u32).to_le_bytes())?;
-    bytes.extend_from_slice(payload)?;
     Ok(bytes)
 }

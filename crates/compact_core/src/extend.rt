@@ -4,7 +4,7 @@ ghost use Rattle.std.specs.Prelude.{◌≡◌, ◌<◌, ◌≤◌, ◌+◌, ◌^
 ghost use Rattle.disk_edge.specs.Disk.{IfTold, Exactly, Keeps, OnFailed, Counted, Faulted};
 ghost use Rattle.disk_edge.specs.Moments.{AtEachMoment};
 ghost use Rattle.journal_core.specs.declared.format.TheConstants.{CLOSED};
-ghost use Rattle.compact_core.specs.Copies.{Stands};
+ghost use Rattle.compact_core.specs.Copies.{Gathered, Stands};
 
 use disk_edge::{Disk, DiskFail};
 use journal_core::CLOSED;
@@ -39,27 +39,28 @@ pub(crate) fn extend<D: Disk>(disk: &mut D, place: u64, bytes: &[u8]) -> Result<
     disk.write_at(place, bytes)
 }
 
-/// Writes a closed gate at the end of what stands, and syncs.
-pub(crate) fn seal<D: Disk>(disk: &mut D, place: u64) -> Result<(), DiskFail>
-    requires start { IfTold (D.model.content disk.old) (λ l. place ≤ length l) }
+/// Writes what is pending and a closed gate behind it, at the end of what stands, and syncs. `pending` stays as it was.
+pub(crate) fn seal<D: Disk>(disk: &mut D, place: u64, pending: &mut Vec<u8>) -> Result<(), DiskFail>
+    requires start { IfTold (D.model.content disk.old)
+        (λ l. place ≤ length l + length pending.old.items) }
+    requires within { length pending.old.items ≤ place }
     requires end { place + 1 < 2 ^ 63 }
 
     ensures ok { OnOk result ((gate : ℕ) (tail : List ℕ)
-        → Stands (D.model.content disk.old) (D.model.images disk.old) gate tail → place ≡ length tail + 1
+        → Gathered D.model disk.old gate tail pending.old.items → place ≡ length tail + 1
         → Stands (D.model.content disk.new) (D.model.images disk.new) gate (tail ++ CLOSED ∷ [])) }
     ensures synced { OnOk result
         (IfTold (D.model.content disk.new) (λ l. Exactly l (D.model.images disk.new))) }
     ensures reaches { OnOk result (IfTold (D.model.content disk.new) (λ l. place < length l)) }
-    ensures long { IfTold (D.model.content disk.new) (λ l. place ≤ length l) }
-    ensures stays { OnErr result ((gate : ℕ) (tail : List ℕ)
-        → Stands (D.model.content disk.old) (D.model.images disk.old) gate tail → place ≡ length tail + 1
-        → Stands (D.model.content disk.new) (D.model.images disk.new) gate tail) }
+    ensures long { IfTold (D.model.content disk.new)
+        (λ l. place ≤ length l + length pending.old.items) }
+    ensures pending { pending.new.items ≡ pending.old.items }
+    ensures stays { (gate : ℕ) (tail : List ℕ)
+        → Gathered D.model disk.old gate tail pending.old.items → place ≡ length tail + 1
+        → Gathered D.model disk.new gate tail pending.old.items }
     ensures moments { (gate : ℕ) (tail : List ℕ)
-        → Stands (D.model.content disk.old) (D.model.images disk.old) gate tail → place ≡ length tail + 1
+        → Gathered D.model disk.old gate tail pending.old.items → place ≡ length tail + 1
         → AtEachMoment D.model disk.old disk.new (λ c. take 1 c ≡ gate ∷ []) }
-    ensures each { (gate : ℕ) (tail : List ℕ)
-        → Stands (D.model.content disk.old) (D.model.images disk.old) gate tail → place ≡ length tail + 1
-        → (c : List ℕ) → D.model.images disk.new c → take 1 c ≡ gate ∷ [] }
     ensures told { IfTold (D.model.content disk.old)
         (λ _. (l : List ℕ) × (D.model.content disk.new ≡ Some l)) }
     ensures untold { D.model.content disk.old ≡ None → D.model.content disk.new ≡ None }
@@ -67,6 +68,40 @@ pub(crate) fn seal<D: Disk>(disk: &mut D, place: u64) -> Result<(), DiskFail>
     ensures past { Keeps D.model disk.old disk.new }
     ensures count { Counted D.model disk.old disk.new }
 {
-    extend(disk, place, &[CLOSED])?;
+    extend_closed(disk, place, pending)?;
     disk.sync()
+}
+
+// Writes what is pending and a closed gate behind it in one call. It is not synced.
+fn extend_closed<D: Disk>(disk: &mut D, place: u64, pending: &mut Vec<u8>) -> Result<(), DiskFail>
+    requires start { IfTold (D.model.content disk.old)
+        (λ l. place ≤ length l + length pending.old.items) }
+    requires within { length pending.old.items ≤ place }
+    requires end { place + 1 < 2 ^ 63 }
+
+    ensures ok { OnOk result ((gate : ℕ) (tail : List ℕ)
+        → Gathered D.model disk.old gate tail pending.old.items → place ≡ length tail + 1
+        → Stands (D.model.content disk.new) (D.model.images disk.new) gate (tail ++ CLOSED ∷ [])) }
+    ensures reaches { OnOk result (IfTold (D.model.content disk.new) (λ l. place < length l)) }
+    ensures long { IfTold (D.model.content disk.new)
+        (λ l. place ≤ length l + length pending.old.items) }
+    ensures pending { pending.new.items ≡ pending.old.items }
+    ensures stays { (gate : ℕ) (tail : List ℕ)
+        → Gathered D.model disk.old gate tail pending.old.items → place ≡ length tail + 1
+        → Gathered D.model disk.new gate tail pending.old.items }
+    ensures moments { (gate : ℕ) (tail : List ℕ)
+        → Gathered D.model disk.old gate tail pending.old.items → place ≡ length tail + 1
+        → AtEachMoment D.model disk.old disk.new (λ c. take 1 c ≡ gate ∷ []) }
+    ensures told { IfTold (D.model.content disk.old)
+        (λ _. (l : List ℕ) × (D.model.content disk.new ≡ Some l)) }
+    ensures untold { D.model.content disk.old ≡ None → D.model.content disk.new ≡ None }
+    ensures cause { OnFailed result (Faulted D.model disk.old disk.new) }
+    ensures past { Keeps D.model disk.old disk.new }
+    ensures count { Counted D.model disk.old disk.new }
+{
+    let start = place - pending.len() as u64;
+    pending.push(CLOSED)?;
+    let outcome = extend(disk, start, pending);
+    pending.pop();
+    outcome
 }

@@ -25,7 +25,7 @@ fn store(alloc: Global) -> Result<MemDisk, Fail> {
 
 // A copy that lacks nothing but its end.
 fn copied(alloc: Global, disk: MemDisk) -> Result<Carry<MemDisk>, Fail>
-    ensures { IfOk result (λ carry. carry.bases ≡ carry.header.base_count) }
+    ensures { IfOk result (λ carry. (carry.bases ≡ carry.header.base_count) × (carry.place ≡ 32)) }
 {
     let mut carry = match Carry::start(alloc, disk, HEADER) {
         Ok(carry) => carry,
@@ -71,6 +71,26 @@ fn a_copy_is_written_as_its_bytes(rt: HostRuntime) -> Result<(), Fail> {
             }
             Err(_) => return Err(Fail::new("not finished")),
         }
+    }
+    Ok(())
+}
+
+#[test]
+fn a_long_copy_is_written_whole(rt: HostRuntime) -> Result<(), Fail> {
+    let long = vec![in rt.alloc(); 7; 30_000]?;
+    let mut carry = copied(rt.alloc(), store(rt.alloc())?)?;
+    carry.add(&long)?;
+    carry.add(&long)?;
+    carry.add(&long)?;
+    let mut bytes = COPY[..32].to_vec(rt.alloc())?;
+    for _ in 0..3 {
+        bytes.extend_from_slice(b"\x5a\x30\x75\0\0")?;
+        bytes.extend_from_slice(&long)?;
+    }
+    bytes.push(0)?;
+    match carry.finish() {
+        Ok(journal) => assert!(rt; journal.into_disk().bytes() == bytes.as_slice()),
+        Err(_) => return Err(Fail::new("not finished")),
     }
     Ok(())
 }

@@ -24,7 +24,7 @@ module _ {D : Type 0} (model : DiskModel D) where
   pub copies_shut : (carry : Carrying D) (base commits : List (List ℕ)) → Copies model carry base commits
       → (y : List ℕ) → model.images carry.disk y → IsOpen y → ⊥
   copies_shut carry base commits r y i is_open =
-      r.shut (same_byte r.gate _ (sym (r.stands.each y i) ∙ begins_open y is_open))
+      r.shut (same_byte r.gate _ (sym (r.gathered.stands.each y i) ∙ begins_open y is_open))
 
   -- what an image of the other disk is
   pub other_shows : (second : Bool) (g : ℕ) (finish copy : Option History) (other : Other D)

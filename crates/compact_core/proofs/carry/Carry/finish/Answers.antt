@@ -1,5 +1,5 @@
 use Rattle.std.proofs.Common.{◌≡◌, ◌∷◌, ◌++◌, List, ℕ, [], length, inr, refl, sym, subst, ap, ◌∙◌, arith}
-use Rattle.disk_edge.specs.Disk.{written, Tears}
+use Rattle.disk_edge.specs.Disk.{written, Same, Tears}
 use Rattle.disk_edge.specs.Moments.{AtEachMoment, two_calls}
 use Rattle.disk_edge.specs.TornLaws.{torn_same, torn_written, length-written}
 use Rattle.journal_core.specs.Fronts.{front_of}
@@ -11,8 +11,9 @@ use Rattle.journal_core.specs.declared.header.Header.{Header}
 use Rattle.compact_core.specs.Carrying.{Carrying}
 use Rattle.compact_core.specs.Copies.{Copies, InDoubt, IsCopyOrShut, tail_of}
 use Rattle.compact_core.proofs.Gates.{not_open}
-use Rattle.compact_core.proofs.Results.{at_failed}
-use Rattle.compact_core.proofs.Tails.{front_tail, sealed_torn, sealed_open}
+use Rattle.compact_core.proofs.Gathering.{still_pending}
+use Rattle.compact_core.proofs.Results.{at_failed, at_no_memory}
+use Rattle.compact_core.proofs.Tails.{front_tail, sealed_torn, sealed_open, stands_still}
 use Rattle.compact_core.proofs.Viewed.{at_view}
 use Rattle.compact_core.proofs.Writes.{some_is, told_before, told_written, untold_written}
 use Rattle.compact_core.proofs.carry.Carry.finish.Goals as goal
@@ -22,7 +23,7 @@ returns-in-Err-Failed-clause-sure g c base commits q x i =
     let d = g.D.Disk.model in
     let r = subst (λ (k : Carrying g.row.D.Denot). Copies d k base commits) (sym c.carry.view_is) q in
     not_open r.gate x r.shut
-    (c.seal.ensures.each r.gate (tail_of c.carry.inside.header base commits) r.stands r.place x i)
+    ((c.seal.ensures.stays r.gate (tail_of c.carry.inside.header base commits) r.gathered r.place).stands.each x i)
 
 pub returns-in-Err-Failed-clause-moments : goal.returns-in-Err-Failed-clause-moments
 returns-in-Err-Failed-clause-moments g c base commits q =
@@ -30,7 +31,7 @@ returns-in-Err-Failed-clause-moments g c base commits q =
     let r = subst (λ (k : Carrying g.row.D.Denot). Copies d k base commits) (sym c.carry.view_is) q in
     at_view d (λ (h : Header). IsCopyOrShut h base commits) _ _ c.seal.new.disk c.carry.view_is
     (λ x m. inr (not_open r.gate x r.shut
-    (c.seal.ensures.moments r.gate (tail_of c.carry.inside.header base commits) r.stands r.place x m)))
+    (c.seal.ensures.moments r.gate (tail_of c.carry.inside.header base commits) r.gathered r.place x m)))
 
 pub returns-in-Err-NoMemory-clause-moments : goal.returns-in-Err-NoMemory-clause-moments
 returns-in-Err-NoMemory-clause-moments g c base commits q =
@@ -38,7 +39,31 @@ returns-in-Err-NoMemory-clause-moments g c base commits q =
     let r = subst (λ (k : Carrying g.row.D.Denot). Copies d k base commits) (sym c.carry.view_is) q in
     at_view d (λ (h : Header). IsCopyOrShut h base commits) _ _ c.seal.new.disk c.carry.view_is
     (λ x m. inr (not_open r.gate x r.shut
-    (c.seal.ensures.moments r.gate (tail_of c.carry.inside.header base commits) r.stands r.place x m)))
+    (c.seal.ensures.moments r.gate (tail_of c.carry.inside.header base commits) r.gathered r.place x m)))
+
+pub returns-in-Err-NoMemory-put-clause-memory : goal.returns-in-Err-NoMemory-put-clause-memory
+returns-in-Err-NoMemory-put-clause-memory g c base commits q =
+    let d = g.D.Disk.model in
+    let mid = c.seal.new.disk in
+    let new = c.put.new.disk in
+    let r = subst (λ (k : Carrying g.row.D.Denot). Copies d k base commits) (sym c.carry.view_is) q in
+    let tail = tail_of c.carry.inside.header base commits in
+    let left = c.seal.ensures.stays r.gate tail r.gathered r.place in
+    let none = c.in-Err-NoMemory-put in
+    let same = at_no_memory none.field-0 (Same (d.images mid) (d.images new)) none.field-0-is none.ensures.no_memory in
+    let still = at_no_memory none.field-0 (d.content new ≡ d.content mid) none.field-0-is
+    none.ensures.no_memory_content in
+    record {
+      gate = r.gate;
+      shut = r.shut;
+      gathered = still_pending d mid r.gate tail c.carry.inside.pending.items left new c.seal.new.pending.items
+          c.seal.ensures.pending (stands_still (d.content mid) (d.content new) (d.images mid) (d.images new) r.gate
+          left.written still same.no_more left.stands);
+      place = r.place;
+      bases = r.bases;
+      fit = r.fit;
+      fit_commits = r.fit_commits;
+    }
 
 pub at_gate-requires : goal.at_gate-requires
 at_gate-requires g c = record {
@@ -61,7 +86,7 @@ returns-in-Ok-put-clause-ok g c base commits q =
     let new = c.put.new.disk in
     let h = c.carry.inside.header in
     let r = subst (λ (k : Carrying g.row.D.Denot). Copies d k base commits) (sym c.carry.view_is) q in
-    let s = c.in-Ok.ensures.ok r.gate (tail_of h base commits) r.stands r.place in
+    let s = c.in-Ok.ensures.ok r.gate (tail_of h base commits) r.gathered r.place in
     let l = r.gate ∷ ((tail_of h base commits ++ CLOSED ∷ []) ++ s.rest) in
     let told = told_written (d.content mid) (d.content new) (written 0 (OPEN ∷ [])) l s.is_told
     c.in-Ok-put.ensures.content in
@@ -101,7 +126,7 @@ returns-in-Ok-put-clause-moments g c base commits q =
     let new = c.put.new.disk in
     let h = c.carry.inside.header in
     let r = subst (λ (k : Carrying g.row.D.Denot). Copies d k base commits) (sym c.carry.view_is) q in
-    let s = c.in-Ok.ensures.ok r.gate (tail_of h base commits) r.stands r.place in
+    let s = c.in-Ok.ensures.ok r.gate (tail_of h base commits) r.gathered r.place in
     let e = c.in-Ok.ensures.synced _ s.is_told in
     subst (λ (j : Standing g.row.D.Denot). AtEachMoment d c.args.self.disk j.disk
     (IsCopyOrShut c.args.self.header base commits)) (sym c.at_gate.ensures)
@@ -109,7 +134,7 @@ returns-in-Ok-put-clause-moments g c base commits q =
     (two_calls d old mid new (IsCopyOrShut h base commits) (g.met.D.Disk.parts new)
     c.seal.ensures.past.later c.put.ensures.past
     (λ x m. inr (not_open r.gate x r.shut
-    (c.seal.ensures.moments r.gate (tail_of h base commits) r.stands r.place x m)))
+    (c.seal.ensures.moments r.gate (tail_of h base commits) r.gathered r.place x m)))
     (λ x m. let t = c.put.ensures.moments x m in
     sealed_torn h base commits r.gate s.rest t.0 x r.fit_commits (e.only t.0 t.1) t.2)))
 
@@ -121,13 +146,13 @@ returns-in-Err-NoMemory-put-clause-moments g c base commits q =
     let new = c.put.new.disk in
     let h = c.carry.inside.header in
     let r = subst (λ (k : Carrying g.row.D.Denot). Copies d k base commits) (sym c.carry.view_is) q in
-    let s = c.in-Ok.ensures.ok r.gate (tail_of h base commits) r.stands r.place in
+    let s = c.in-Ok.ensures.ok r.gate (tail_of h base commits) r.gathered r.place in
     let e = c.in-Ok.ensures.synced _ s.is_told in
     at_view d (λ (h : Header). IsCopyOrShut h base commits) _ _ new c.carry.view_is
     (two_calls d old mid new (IsCopyOrShut h base commits) (g.met.D.Disk.parts new)
     c.seal.ensures.past.later c.put.ensures.past
     (λ x m. inr (not_open r.gate x r.shut
-    (c.seal.ensures.moments r.gate (tail_of h base commits) r.stands r.place x m)))
+    (c.seal.ensures.moments r.gate (tail_of h base commits) r.gathered r.place x m)))
     (λ x m. let t = c.put.ensures.moments x m in
     sealed_torn h base commits r.gate s.rest t.0 x r.fit_commits (e.only t.0 t.1) t.2))
 
@@ -139,13 +164,13 @@ returns-in-Err-Failed-put-clause-moments g c base commits q =
     let new = c.put.new.disk in
     let h = c.carry.inside.header in
     let r = subst (λ (k : Carrying g.row.D.Denot). Copies d k base commits) (sym c.carry.view_is) q in
-    let s = c.in-Ok.ensures.ok r.gate (tail_of h base commits) r.stands r.place in
+    let s = c.in-Ok.ensures.ok r.gate (tail_of h base commits) r.gathered r.place in
     let e = c.in-Ok.ensures.synced _ s.is_told in
     at_view d (λ (h : Header). IsCopyOrShut h base commits) _ _ new c.carry.view_is
     (two_calls d old mid new (IsCopyOrShut h base commits) (g.met.D.Disk.parts new)
     c.seal.ensures.past.later c.put.ensures.past
     (λ x m. inr (not_open r.gate x r.shut
-    (c.seal.ensures.moments r.gate (tail_of h base commits) r.stands r.place x m)))
+    (c.seal.ensures.moments r.gate (tail_of h base commits) r.gathered r.place x m)))
     (λ x m. let t = c.put.ensures.moments x m in
     sealed_torn h base commits r.gate s.rest t.0 x r.fit_commits (e.only t.0 t.1) t.2))
 
@@ -156,7 +181,7 @@ returns-in-Err-Failed-put-clause-doubt g c base commits q =
     let new = c.put.new.disk in
     let r = subst (λ (k : Carrying g.row.D.Denot). Copies d k base commits) (sym c.carry.view_is) q in
     let h = c.carry.inside.header in
-    let s = c.in-Ok.ensures.ok r.gate (tail_of h base commits) r.stands r.place in
+    let s = c.in-Ok.ensures.ok r.gate (tail_of h base commits) r.gathered r.place in
     let l = r.gate ∷ ((tail_of h base commits ++ CLOSED ∷ []) ++ s.rest) in
     let e = c.in-Ok.ensures.synced l s.is_told in
     let tears = at_failed c.in-Err-Failed-put.field-0 (Tears 0 1 (d.images mid) (d.images new))

@@ -8,4 +8,4 @@ pub returns-clause-shut : goal.returns-clause-shut
 returns-clause-shut g c base commits q x i =
     let d = g.D.Disk.model in
     let r = subst (λ (k : Carrying g.row.D.Denot). Copies d k base commits) (sym c.self.view_is) q in
-    not_open r.gate x r.shut (r.stands.each x i)
+    not_open r.gate x r.shut (r.gathered.stands.each x i)

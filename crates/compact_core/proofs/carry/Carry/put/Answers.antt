@@ -1,36 +1,15 @@
-use Rattle.std.proofs.Common.{◌∷◌, ◌++◌, List, ℕ, [], sym, subst, ap, ◌∙◌, arith, length-append}
+use Rattle.std.proofs.Common.{◌∷◌, ◌++◌, List, ℕ, [], sym, subst, arith, length-append}
 use Rattle.journal_core.specs.Fronts.{IsOpen}
 use Rattle.journal_core.specs.RecordLaws.{all_short}
+use Rattle.journal_core.specs.Records.{body}
 use Rattle.journal_core.specs.declared.header.Header.{Header}
 use Rattle.compact_core.specs.Carrying.{Carrying}
-use Rattle.compact_core.specs.Copies.{Copies, Stands, tail_of}
+use Rattle.compact_core.specs.Copies.{Copies, tail_of}
 use Rattle.compact_core.proofs.Gates.{not_open}
-use Rattle.compact_core.proofs.Results.{always_err}
+use Rattle.compact_core.proofs.Gathering.{more_pending}
 use Rattle.compact_core.proofs.Tails.{put_tail, length-put_tail}
 use Rattle.compact_core.proofs.Viewed.{at_view}
 use Rattle.compact_core.proofs.carry.Carry.put.Goals as goal
-
-pub returns-in_err-extend-clause-stays : goal.returns-in_err-extend-clause-stays
-returns-in_err-extend-clause-stays g c = always_err c.from_residual-in_err-extend.result (λ base commits q.
-    let d = g.D.Disk.model in
-    let r = subst (λ (k : Carrying g.row.D.Denot). Copies d k base commits) (sym c.self.view_is) q in
-    record {
-      gate = r.gate;
-      shut = r.shut;
-      stands = c.in_err-extend.ensures.stays r.gate (tail_of c.self.inside.header base commits) r.stands r.place;
-      place = r.place;
-      bases = r.bases;
-      fit = r.fit;
-      fit_commits = r.fit_commits;
-    })
-
-pub returns-in_err-extend-clause-moments : goal.returns-in_err-extend-clause-moments
-returns-in_err-extend-clause-moments g c base commits q =
-    let d = g.D.Disk.model in
-    let r = subst (λ (k : Carrying g.row.D.Denot). Copies d k base commits) (sym c.self.view_is) q in
-    at_view d (λ (h : Header) (x : List ℕ). IsOpen x → ⊥) _ _ c.extend.new.disk c.self.view_is
-    (λ x m. not_open r.gate x r.shut
-    (c.extend.ensures.moments r.gate (tail_of c.self.inside.header base commits) r.stands r.place x m))
 
 pub returns-clause-ok : goal.returns-clause-ok
 returns-clause-ok g c base q =
@@ -38,24 +17,31 @@ returns-clause-ok g c base q =
     let r = subst (λ (k : Carrying g.row.D.Denot). Copies d k base []) (sym c.self.view_is) q in
     let h = c.self.inside.header in
     let p = c.args.payload.now in
-    let new = c.extend.new.disk in
-    let bytes = c.deref.ensures.value ∙ c.in_ok-bytes.ensures in
-    let written = c.in_ok-extend.ensures.ok r.gate (tail_of h base []) r.stands r.place in
+    let tail = tail_of h base [] in
     record {
       gate = r.gate;
       shut = r.shut;
-      stands = subst (Stands (d.content new) (d.images new) r.gate)
-          (ap (λ (l : List ℕ). tail_of h base [] ++ l) bytes ∙ sym (put_tail h base p)) written;
+      gathered = more_pending d c.make_room.new.disk r.gate tail c.make_room.new.pending.items
+          (c.make_room.ensures.stays r.gate tail r.gathered r.place) (body p)
+          (tail_of h (base ++ p ∷ []) []) c.push_base.new.pending.items (put_tail h base p) c.push_base.ensures;
       place = omega (arith, r.place, length-put_tail h base p);
       bases = omega (arith, r.bases, length-append base (p ∷ []));
       fit = all_short base p r.fit c.requires.few;
       fit_commits = tt;
     }
 
+pub returns-in_err-make_room-clause-moments : goal.returns-in_err-make_room-clause-moments
+returns-in_err-make_room-clause-moments g c base commits q =
+    let d = g.D.Disk.model in
+    let r = subst (λ (k : Carrying g.row.D.Denot). Copies d k base commits) (sym c.self.view_is) q in
+    at_view d (λ (h : Header) (x : List ℕ). IsOpen x → ⊥) _ _ c.make_room.new.disk c.self.view_is
+    (λ x m. not_open r.gate x r.shut
+    (c.make_room.ensures.moments r.gate (tail_of c.self.inside.header base commits) r.gathered r.place x m))
+
 pub returns-clause-moments : goal.returns-clause-moments
 returns-clause-moments g c base commits q =
     let d = g.D.Disk.model in
     let r = subst (λ (k : Carrying g.row.D.Denot). Copies d k base commits) (sym c.self.view_is) q in
-    at_view d (λ (h : Header) (x : List ℕ). IsOpen x → ⊥) _ _ c.extend.new.disk c.self.view_is
+    at_view d (λ (h : Header) (x : List ℕ). IsOpen x → ⊥) _ _ c.make_room.new.disk c.self.view_is
     (λ x m. not_open r.gate x r.shut
-    (c.extend.ensures.moments r.gate (tail_of c.self.inside.header base commits) r.stands r.place x m))
+    (c.make_room.ensures.moments r.gate (tail_of c.self.inside.header base commits) r.gathered r.place x m))

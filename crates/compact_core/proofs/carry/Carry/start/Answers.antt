@@ -1,18 +1,22 @@
-use Rattle.std.proofs.Common.{length, inl, inr, refl, sym, subst, ap, arith}
-use Rattle.compact_core.specs.Copies.{Stands}
+use Rattle.std.proofs.Common.{◌∙◌, ◌++◌, List, ℕ, length, inl, inr, refl, sym, ap, arith}
+use Rattle.std.proofs.lemmas.List.{append-nil}
+use Rattle.journal_core.specs.Fronts.{behind_gate}
 use Rattle.compact_core.proofs.Tails.{tail_nil, length-behind_gate}
 use Rattle.compact_core.proofs.carry.Carry.start.Goals as goal
 
 pub returns-in-Ok-clause-ok : goal.returns-in-Ok-clause-ok
 returns-in-Ok-clause-ok g c l told =
-    let d = g.D.Disk.model in
-    let new = c.begin.new.disk in
     let s = c.in-Ok.ensures.ok l told in
     let h = c.args.header in
     record {
       gate = s.gate;
       shut = s.shut;
-      stands = subst (Stands (d.content new) (d.images new) s.gate) (sym (tail_nil h)) s.stands;
+      gathered = record {
+        written = behind_gate h;
+        stands = s.stands;
+        is = ap (λ (l : List ℕ). behind_gate h ++ l) c.new.ensures.items ∙ append-nil (behind_gate h)
+            ∙ sym (tail_nil h);
+      };
       place = omega (arith, ap length (tail_nil h), length-behind_gate h);
       bases = refl;
       fit = tt;
