@@ -73,6 +73,7 @@ impl Visit<Record> for Likes {
     ghost has_seen = { λ start given likes records. HasOffered start.best given.print records likes.best };
 
     fn see(&mut self, given: &Record, other: &Record) -> Result<(), AllocError> {
+        // The numbers of bits alone may show that it is no hit.
         let (c, u) = most_alike(given.bits(), other.bits());
         if !self.best.may_take(other.id(), c, u) {
             return Ok(());
