@@ -9,12 +9,12 @@ ghost use Rattle.lookup.specs.Lists.{IsSimilarList};
 use crate::pages::{Visit, see_head};
 use chem_core::Print;
 use par_search::SearchFault;
-use similar_find::{Best, score};
+use similar_find::{Best, most_alike, score};
 use std::alloc::{AllocError, Global};
 use store_core::{Record, Service};
 
-/// The identifiers that are most similar to a given structure, the best first, at a version, and how many were scored:
-/// all that are live.
+/// The identifiers that are most similar to a given structure, the best first, at a version, and how many were
+/// compared: all that are live.
 #[derive(Debug, Drop)]
 pub struct SimilarList {
     pub version: u32,
@@ -73,7 +73,12 @@ impl Visit<Record> for Likes {
     ghost has_seen = { λ start given likes records. HasOffered start.best given.print records likes.best };
 
     fn see(&mut self, given: &Record, other: &Record) -> Result<(), AllocError> {
-        let (c, u) = counts(given.print(), other);
+        // The numbers of bits alone may show that it is no hit.
+        let (c, u) = most_alike(given.bits(), other.bits());
+        if !self.best.may_take(other.id(), c, u) {
+            return Ok(());
+        }
+        let (c, u) = counts(given, other);
         // No structure is without bits.
         if u == 0 {
             return Ok(());
@@ -83,14 +88,12 @@ impl Visit<Record> for Likes {
     }
 }
 
-// How many bits a print and that of a record have in common, and how many are in at least one.
-fn counts(given: &Print, other: &Record) -> (u32, u32)
-    ensures scored { IsScored given.now other.now.format other.now.text result.0 result.1 }
+// How many bits the prints of two records have in common, and how many are in at least one.
+fn counts(given: &Record, other: &Record) -> (u32, u32)
+    ensures scored { IsScored given.now.print other.now.format other.now.text result.0 result.1 }
     ensures part { result.0 ≤ result.1 }
     ensures few { result.1 ≤ 1024 }
 {
     let _ = other.id();
-    let print = other.print();
-    let _ = print.has(0);
-    score(given, print)
+    score(given.print(), given.bits(), other.print(), other.bits())
 }

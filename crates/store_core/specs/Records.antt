@@ -1,8 +1,9 @@
 -- A record and a page, as contracts see them.
-use Rattle.std.specs.Prelude.{Bool, List, map, ℕ}
+use Rattle.std.specs.Prelude.{◌≡◌, Bool, length, List, map, ℕ}
 use Rattle.std.specs.Arc.{arc_value}
 use Rattle.std.specs.declared.alloc.Global.{Global}
 use Rattle.std.specs.declared.sync.Arc.{Arc}
+use Rattle.chem_core.specs.Bits.{set_bits}
 use Rattle.chem_core.specs.Molecule.{IsMolecule, Molecule}
 use Rattle.mol_finish.specs.Structure.{HasMolecule}
 use Rattle.mol_finish.specs.declared.fault.Format.{Format}
@@ -23,6 +24,11 @@ pub record IsRecord (r : RecordTerm) : Type 0 where
   pub structure : HasMolecule r.format r.text r.mol
   pub molecule : IsMolecule r.mol
   pub print : IsPrintOf r.mol r.print
+
+-- a print has its length, and so many bits are set in it
+pub record HasBits (print : List Bool) (bits : ℕ) : Type 0 where
+  pub length_is : length print ≡ 1024
+  pub bits_are : bits ≡ set_bits print
 
 -- records that are shared
 abbrev pub Shared : Type 0

@@ -1,11 +1,12 @@
 //! A record: a text under its identifier, with its structure and print.
-ghost use Rattle.std.specs.Prelude.{◌≡◌, Err, IfErr, IfOk};
+ghost use Rattle.std.specs.Prelude.{◌≡◌, ◌≤◌, Err, IfErr, IfOk, length};
 ghost use Rattle.std.specs.Arc.{arc_value};
+ghost use Rattle.chem_core.specs.Bits.{set_bits};
 ghost use Rattle.chem_core.specs.Molecule.{IsMolecule};
 ghost use Rattle.mol_finish.specs.Structure.{HasMolecule, IsAnswer};
 ghost use Rattle.store_machine.specs.History.{IsId};
 ghost use Rattle.store_machine.specs.Structures.{IsPrintOf};
-ghost use Rattle.store_core.specs.Records.{IsRecord};
+ghost use Rattle.store_core.specs.Records.{HasBits, IsRecord};
 
 use bumpalo::Bump;
 use chem_core::{Mol, Print};
@@ -20,20 +21,23 @@ use std::sync::Arc;
 pub struct Record {
     id: u32,
     format: Format,
+    // how many bits are set in the print
+    bits: u16,
     text: Vec<u8>,
     mol: Mol,
     print: Print,
 }
 
 impl Model for Record {
-    ghost use Rattle.store_core.specs.Records.{IsRecord, RecordTerm};
+    ghost use Rattle.store_core.specs.Records.{HasBits, IsRecord, RecordTerm};
 
     ghost Value = { RecordTerm };
 
     ghost view = { λ r. record { id = r.id; format = r.format; text = r.text.items; mol = r.mol; print = r.print } };
 
     ghost invariant = { λ r. IsRecord (record
-        { id = r.id; format = r.format; text = r.text.items; mol = r.mol; print = r.print }) };
+        { id = r.id; format = r.format; text = r.text.items; mol = r.mol; print = r.print })
+        × HasBits r.print r.bits };
 }
 
 /// What makes records of one text after another, with working memory that is kept from one to the next.
@@ -93,6 +97,15 @@ impl Record {
     {
         &self.print
     }
+
+    /// How many bits are set in its print. They were counted when it was made.
+    pub fn bits(&self) -> u32
+        ensures bits { result ≡ set_bits self.now.print }
+        ensures few { result ≤ 1024 }
+        ensures length { length self.now.print ≡ 1024 }
+    {
+        u32::from(self.bits)
+    }
 }
 
 impl Recorder {
@@ -120,6 +133,7 @@ impl Recorder {
         let record = Record {
             id,
             format,
+            bits: bits_of(&print),
             text,
             mol,
             print,
@@ -145,4 +159,11 @@ fn print_of(mol: &Mol) -> Print
 {
     let _ = mol.atoms();
     print(mol)
+}
+
+// How many bits are set in a print.
+fn bits_of(print: &Print) -> u16
+    ensures { HasBits print.now result }
+{
+    print.count() as u16
 }
