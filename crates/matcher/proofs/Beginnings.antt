@@ -22,24 +22,18 @@ AreFirst m words block all = (i : ℕ) → i < 64
     → bit_at all i ≡ 1 ↔ (64 * block + i < length m.atoms) × IsCandidate words 0 (64 * block + i)
 
 -- they are read from the first place's word
-pub first_read : (m : Molecule) (words : List ℕ) (block word all : ℕ) → 256 * block < length words
-    → word ≡ get_or words (256 * block) word
+pub first_read : (m : Molecule) (words : List ℕ) (block word all : ℕ)
+    → ((i : ℕ) → i < 64 → bit_at word i ≡ 1 ↔ IsCandidate words 0 (64 * block + i))
     → ((i : ℕ) → i < 64 → bit_at all i ≡ 1 ↔ 64 * block + i < length m.atoms)
     → AreFirst m words block (bit_and word all)
-first_read m words block word all room is inside i l =
-    let read : word ≡ get_or words (256 * block) 0 = is ∙ get_or_default words (256 * block) word 0 room in
-    let place : 256 * ((64 * block + i) / 64) + 0 ≡ 256 * block = omega arith in
-    let bit : (64 * block + i) % 64 ≡ i = omega arith in
-    let same : bit_at (slice_index words (256 * ((64 * block + i) / 64) + 0)) ((64 * block + i) % 64) ≡ bit_at word i =
-    ap (λ k. bit_at (slice_index words k) ((64 * block + i) % 64)) place
-    ∙ ap (bit_at (slice_index words (256 * block))) bit ∙ ap (λ w. bit_at w i) (sym read) in
+first_read m words block word all read inside i l =
     let both = bit_at_and word all i in
     let one = bit_at-lt word i in
     let two = bit_at-lt all i in (
-      λ t. let here : bit_at word i ≡ 1 = omega arith in ((inside i l).0 (omega arith), same ∙ here),
+      λ t. let here : bit_at word i ≡ 1 = omega arith in ((inside i l).0 (omega arith), (read i l).0 here),
       λ w.
           let in_all = (inside i l).1 w.0 in
-          let here : bit_at word i ≡ 1 = sym same ∙ w.1 in
+          let here = (read i l).1 w.1 in
           omega arith,
     )
 

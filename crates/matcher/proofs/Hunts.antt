@@ -1,5 +1,5 @@
 -- Embeddings that have some atoms already: where the next place may stand.
-use Rattle.std.proofs.Common.{◌≡◌, ◌⊎◌, ℕ, ◌<◌, ◌≤◌, List, Contains, length, map, max, take, set, slice_index, get_or, sym, ap, ◌∙◌, subst, arith, inl, inr}
+use Rattle.std.proofs.Common.{◌≡◌, ◌≢◌, ◌⊎◌, ℕ, ◌<◌, ◌≤◌, List, Contains, length, map, max, take, set, slice_index, get_or, sym, ap, ◌∙◌, subst, arith, inl, inr}
 use Rattle.std.specs.Int.{bit_at}
 use Rattle.std.proofs.lemmas.Bool.{cases_eq, cases_order}
 use Rattle.std.proofs.lemmas.List.{get_or-map, get_or_default, get_or-set_other, get_or-set_same, get_or-take, length-map, length-set, length-take-le}
@@ -11,6 +11,7 @@ use Rattle.smarts_parse.specs.declared.pattern.BondPrim.TheVariants as prims
 use Rattle.smarts_parse.specs.Embedding.{BondEmbeds}
 use Rattle.smarts_parse.specs.Pattern.{BondTerm, Prim, bond_of, graph_of, term_of}
 use Rattle.smarts_parse.specs.Truth.{BondTrue}
+use Rattle.matcher.specs.Candidates.{AreCandidates, IsCandidate}
 use Rattle.matcher.specs.declared.fit.Task.{Task}
 use Rattle.matcher.specs.Hunt.{AreTaken, Asks, Continues}
 use Rattle.matcher.specs.Task.{Embeds, IsReadyTask}
@@ -131,6 +132,22 @@ taken_twice task taken whole place atom n size room few in_range free w h e =
         | inr higher ↦ h.embeds.distinct place q 0 higher (omega arith) (e ∙ sym there)
       ]
     ]
+
+-- a place that is not taken stands at a candidate that is none of the atoms that a word has as taken
+pub stands_free : (task : Task) (words taken whole : List ℕ) (used place atom : ℕ) → AreCandidates task words
+    → AreTaken task used taken → length task.graph.now.atoms.items ≤ length taken
+    → place < length task.graph.now.atoms.items → length task.mol.now.atoms ≤ slice_index taken place
+    → Continues task taken whole → slice_index whole place ≡ atom
+    → (atom < length task.mol.now.atoms) × IsCandidate words place atom × (bit_at used atom ≢ 1)
+stands_free task words taken whole used place atom candidates marked room few free h e =
+    let size : length task.graph.now.atoms.items ≡ length whole = omega
+    (arith, h.embeds.one_each, length-map task.graph.now.atoms.items term_of) in (
+      subst (λ a. a < length task.mol.now.atoms) e (h.embeds.in_range place 0 (omega arith)),
+      subst (IsCandidate words place) e (candidates.whole whole h.embeds place (omega arith)),
+      λ t.
+          let w = marked atom t in
+          taken_twice task taken whole place atom (length task.graph.now.atoms.items) size room few w.0 free w.1 h e,
+    )
 
 -- no place is taken yet
 pub none_taken : (task : Task) (taken whole : List ℕ) (n : ℕ) → n ≡ length (graph_of task.graph.now).atoms

@@ -1,6 +1,7 @@
 -- Candidates of a place: what an embedding keeps of them.
-use Rattle.std.proofs.Common.{◌≡◌, ◌++◌, ◌∷◌, [], ◌∙◌, ◌<◌, ℕ, List, ap, arith, length, refl, slice_index, subst, sym}
-use Rattle.std.proofs.lemmas.List.{get_or_push, length-map, length_push}
+use Rattle.std.proofs.Common.{◌≡◌, ◌↔◌, ◌++◌, ◌∷◌, [], ◌∙◌, ◌+◌, ◌*◌, ◌/◌, ◌%◌, ◌<◌, ℕ, List, ap, arith, get_or, length, refl, slice_index, subst, sym}
+use Rattle.std.specs.Int.{bit_at}
+use Rattle.std.proofs.lemmas.List.{get_or_default, get_or_push, length-map, length_push}
 use Rattle.smarts_parse.specs.Pattern.{graph_of, term_of}
 use Rattle.chem_core.specs.Molecule.{Molecule}
 use Rattle.smarts_parse.specs.Pattern.{GraphTerm}
@@ -10,6 +11,21 @@ use Rattle.matcher.specs.Candidates.{AreCandidates, AreTruths, AreTruthsIn, IsCa
 use Rattle.matcher.specs.declared.fit.Task.{Task}
 use Rattle.matcher.specs.Task.{Completes, Embeds}
 use Rattle.matcher.proofs.Partials.{index_front}
+
+-- a word of a place, as it is read
+pub block_read : (words : List ℕ) (block place word : ℕ) → place < 256 → 256 * block + place < length words
+    → word ≡ get_or words (256 * block + place) word
+    → (i : ℕ) → i < 64 → bit_at word i ≡ 1 ↔ IsCandidate words place (64 * block + i)
+block_read words block place word few room is i l =
+    let read : word ≡ slice_index words (256 * block + place) = is
+    ∙ get_or_default words (256 * block + place) word 0 room in
+    let at : 256 * ((64 * block + i) / 64) + place ≡ 256 * block + place = omega arith in
+    let bit : (64 * block + i) % 64 ≡ i = omega arith in
+    let same : bit_at (slice_index words (256 * ((64 * block + i) / 64) + place)) ((64 * block + i) % 64)
+    ≡ bit_at word i =
+    ap (λ k. bit_at (slice_index words k) ((64 * block + i) % 64)) at
+    ∙ ap (bit_at (slice_index words (256 * block + place))) bit ∙ ap (λ w. bit_at w i) (sym read) in
+    (λ t. same ∙ t, λ t. sym same ∙ t)
 
 -- a place stands at none but its candidates
 pub cannot_stand : (task : Task) (words image : List ℕ) (place atom : ℕ) → AreCandidates task words → Embeds task image

@@ -16,7 +16,7 @@ use crate::choices::Choices;
 use crate::fit::Task;
 use crate::grouping::Grouping;
 use crate::hunt::{is_whole, may_continue};
-use crate::lay::{Placement, is_rare, lay, start_at};
+use crate::lay::{NO_BOND, Order, Placement, is_rare};
 use crate::lean::place_least;
 use crate::narrow::Narrowing;
 use crate::parts::note_parts;
@@ -91,7 +91,7 @@ fn matches(pattern: &Pattern, prepared: &Prepared, mol: &Mol, memory: &mut Memor
     if lacks_atom(pattern, prepared.plans.top(pattern), mol) {
         return false;
     }
-    let order = prepared.order.stops();
+    let order = &prepared.order;
     match only_part(pattern) {
         Some(part) => {
             note_parts(pattern, prepared, mol, memory, part);
@@ -110,7 +110,7 @@ fn matches(pattern: &Pattern, prepared: &Prepared, mol: &Mol, memory: &mut Memor
 fn exists(
     graph: &Graph,
     steps: &[EarlierBonds],
-    order: &[Placement],
+    order: &Order,
     mol: &Mol,
     memory: &mut Memory,
 ) -> bool
@@ -135,7 +135,7 @@ fn exists(
     }
     let candidates = &memory.candidates;
     let image = &mut memory.image;
-    if let Some(found) = seek(&task, candidates, order, &mut memory.stops, image) {
+    if let Some(found) = seek(&task, candidates, order, image) {
         return found;
     }
     place_least(&task, candidates, image, &mut memory.choices)
@@ -143,26 +143,24 @@ fn exists(
 
 // Whether the graph has an embedding, where searches in orders of their own find it out. One from its first place is
 // left to the search for the least embedding.
-fn seek(
-    task: &Task,
-    candidates: &Candidates,
-    order: &[Placement],
-    stops: &mut [Placement],
-    image: &mut [u16],
-) -> Option<bool>
+fn seek(task: &Task, candidates: &Candidates, order: &Order, image: &mut [u16]) -> Option<bool>
     requires ready { IsReadyTask task.now }
     requires room { length task.now.graph.now.atoms.items ≤ length image.old }
     requires candidates { AreCandidates task.now candidates.now.words.items }
     ensures { IfSome result (λ found. IsTrue found ↔ Completes task.now []) }
 {
-    if order.is_empty() {
+    let stops = order.stops();
+    if stops.is_empty() {
+        return None;
+    }
+    if order.is_loose() {
         return if lacks_component(task, candidates, stops, image) {
             Some(false)
         } else {
             None
         };
     }
-    if finds_none(task, candidates, order, image) {
+    if finds_none(task, candidates, stops, image) {
         return Some(false);
     }
     if is_whole(task, candidates, image) {
@@ -171,12 +169,12 @@ fn seek(
     None
 }
 
-// Whether the graph is of components, and one of several places, of at most 64 in all, has no embedding by itself.
-// Different components could still meet.
+// Whether one of the components, whose stops stand one after another, has no embedding by itself. Different components
+// could still meet.
 fn lacks_component(
     task: &Task,
     candidates: &Candidates,
-    stops: &mut [Placement],
+    stops: &[Placement],
     image: &mut [u16],
 ) -> bool
     requires ready { IsReadyTask task.now }
@@ -184,29 +182,30 @@ fn lacks_component(
     requires candidates { AreCandidates task.now candidates.now.words.items }
     ensures { IsTrue result → ¬ Completes task.now [] }
 {
-    let places = task.graph.atoms.len();
-    if places > 64 || !is_loose(task.steps) {
-        return false;
-    }
-    for place in 0..places as u16 {
-        if !begins_component(task, usize::from(place)) {
+    for begin in 0..stops.len() {
+        if stops[begin].bond != NO_BOND {
             continue;
         }
-        let count = lay(&task.graph.bonds, start_at(place), stops);
-        if finds_none(task, candidates, &stops[..count], image) {
+        let end = end_of_component(stops, begin);
+        if finds_none(task, candidates, &stops[begin..end], image) {
             return true;
         }
     }
     false
 }
 
-// Whether the place is the first of a component of several.
-fn begins_component(task: &Task, place: usize) -> bool {
-    let mut steps = task.steps.iter().skip(place);
-    match (steps.next(), steps.next()) {
-        (Some(here), Some(next)) => here.from >= here.to && next.from < next.to,
-        _ => false,
+// Where the component ends that begins at a stop.
+fn end_of_component(stops: &[Placement], begin: usize) -> usize
+    requires { begin < length stops.now }
+    ensures from { begin ≤ result }
+    ensures to { result ≤ length stops.now }
+{
+    for next in begin + 1..stops.len() {
+        if stops[next].bond == NO_BOND {
+            return next;
+        }
     }
+    stops.len()
 }
 
 // Whether a search in that order finds that there is no embedding. If not, the image has what it found.

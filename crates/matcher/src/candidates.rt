@@ -61,13 +61,24 @@ impl Candidates {
         }
     }
 
+    /// The word of a place for a block.
+    #[inline(always)]
+    pub fn word(&self, place: usize, block: usize) -> u64
+        requires place { place < MOST_PLACES }
+        requires block { block < 16 }
+        ensures { (i : ℕ) → i < 64 → bit_at result i ≡ 1
+            ↔ IsCandidate self.now.words.items place (64 * block + i) }
+    {
+        self.words[MOST_PLACES * block + place]
+    }
+
     /// At which atoms of a block the first place may stand.
     pub fn first_in(&self, mol: &Mol, block: usize) -> u64
         requires { block < 16 }
         ensures { (i : ℕ) → i < 64 → bit_at result i ≡ 1
             ↔ (64 * block + i < length mol.now.atoms) × IsCandidate self.now.words.items 0 (64 * block + i) }
     {
-        self.words[MOST_PLACES * block] & all_in(mol, block)
+        self.word(0, block) & all_in(mol, block)
     }
 
     /// Takes an atom away from the candidates of a place.

@@ -9,7 +9,7 @@ use crate::candidates::Candidates;
 use crate::fit::Task;
 use crate::group::{begins_group, lacks_room};
 use crate::hunt::{may_continue, with_taken};
-use crate::lay::{EVERY_BOND, NO_BOND, NO_PLACEMENT, Placement};
+use crate::lay::{EVERY_BOND, NO_BOND, NO_PLACEMENT, Placement, start_at};
 use crate::plan::EarlierBonds;
 use crate::planned::MOST_PLACES;
 use smarts_parse::Pattern;
@@ -137,15 +137,24 @@ impl Grouping {
 // Lays each place in turn, after an earlier one to which a bond joins it.
 fn lay_in_turn(steps: &[EarlierBonds], stops: &mut [Placement]) {
     for (place, stop) in stops.iter_mut().enumerate() {
-        let bond = match steps.get(place) {
-            Some(step) if step.from < step.to => u16::try_from(step.from).unwrap_or(NO_BOND),
-            _ => NO_BOND,
+        let place = u16::try_from(place).unwrap_or(0);
+        *stop = match steps.get(usize::from(place)) {
+            Some(step) => after_earlier(place, *step),
+            None => start_at(place),
         };
-        *stop = Placement {
-            place: u16::try_from(place).unwrap_or(0),
-            bond,
-            closing: EVERY_BOND,
-        };
+    }
+}
+
+// A place by the first of its bonds to earlier places, if it has any.
+fn after_earlier(place: u16, step: EarlierBonds) -> Placement {
+    let count = step.to.saturating_sub(step.from);
+    if count == 0 {
+        return start_at(place);
+    }
+    Placement {
+        place,
+        bond: u16::try_from(step.from).unwrap_or(NO_BOND),
+        closing: if count == 1 { NO_BOND } else { EVERY_BOND },
     }
 }
 

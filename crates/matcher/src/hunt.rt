@@ -1,22 +1,24 @@
 //! A search for any embedding of a graph, in an order of its own. An image says by the places of the graph where they
-//! stand; a place is taken where the image has an atom of the molecule.
+//! stand; a place is taken where the image has an atom of the molecule. Of the first 64 atoms a word has those that are
+//! taken, and the atoms at which a place may stand are gone through by words.
 //!
 //! Nothing is promised where the search comes to its end, but where it does not, there is no embedding.
-ghost use Rattle.std.specs.Prelude.{◌∷◌, ◌++◌, ◌≡◌, ◌<◌, ◌≤◌, ◌⊎◌, [], ℕ, List, false, length, slice_index, Contains, IfSome, IsTrue};
+ghost use Rattle.std.specs.Prelude.{◌∷◌, ◌++◌, ◌≡◌, ◌≢◌, ◌<◌, ◌≤◌, ◌+◌, ◌*◌, ◌↔◌, ◌⊎◌, [], ℕ, List, false, length, slice_index, IfSome, IsTrue};
 ghost use Rattle.std.specs.Int.{bit_at};
 ghost use Rattle.matcher.specs.Hunt.{AreTaken, Asks, Continues, IsFree, stop_at};
-ghost use Rattle.matcher.specs.Candidates.{AreCandidates};
+ghost use Rattle.matcher.specs.Candidates.{AreCandidates, IsCandidate};
 ghost use Rattle.matcher.specs.Task.{Completes, IsPlaced, IsReadyTask};
 
-use crate::candidates::{Candidates, MOST_BITS, has};
+use crate::candidates::{Candidates, MOST_BITS, all_in, has};
 use crate::fit::{Task, are_joined_by, first_embeds, fits, is_new};
 use crate::group::keeps_groups;
 use crate::lay::{EVERY_BOND, NO_BOND, Placement};
+use crate::planned::MOST_PLACES;
 use smarts_mean::bond_true;
 use smarts_parse::PatBond;
 
-/// Whether the stops that are left may be placed. If not, the image is as before. In a molecule of at most 64 atoms the
-/// word has the atoms that are taken.
+/// Whether the stops that are left may be placed. If not, the image is as before. The word has those of the first 64
+/// atoms that are taken.
 ///
 /// The calls go as deep as there are stops.
 #[cycle(hunt)]
@@ -69,11 +71,43 @@ fn continues_anywhere(
     ensures kept { result ≡ false → image.new ≡ image.old }
     ensures none { result ≡ false → (whole : List ℕ) → ¬ Continues task.now image.old whole }
 {
-    let place = usize::from(stops[placed].place);
-    for atom in 0..task.mol.atoms().len() as u16 {
-        if !candidates.has(place, atom) {
-            continue;
+    for block in 0..task.mol.atoms().len().div_ceil(64) {
+        if continues_in(task, candidates, stops, image, used, placed, block) {
+            return true;
         }
+    }
+    false
+}
+
+// The same where the next place may stand at an atom of a block.
+#[cycle(hunt)]
+#[inline(always)]
+fn continues_in(
+    task: &Task,
+    candidates: &Candidates,
+    stops: &[Placement],
+    image: &mut [u16],
+    used: u64,
+    placed: usize,
+    block: usize,
+) -> bool
+    requires ready { IsReadyTask task.now }
+    requires room { length task.now.graph.now.atoms.items ≤ length image.old }
+    requires used { AreTaken task.now used image.old }
+    requires placed { placed < length stops.now }
+    requires free { IsFree task.now stops.now placed image.old }
+    requires block { block < 16 }
+    requires candidates { AreCandidates task.now candidates.now.words.items }
+    ensures kept { result ≡ false → image.new ≡ image.old }
+    ensures none { result ≡ false → (whole : List ℕ) → Continues task.now image.old whole → (i : ℕ) → i < 64
+        → slice_index whole (stop_at stops.now placed).place ≡ 64 * block + i → ⊥ }
+{
+    let place = usize::from(stops[placed].place);
+    let mut left = free_in(task, candidates, used, place, block);
+    while left != 0 {
+        let bit = left.trailing_zeros();
+        left &= !(1 << bit);
+        let atom = (64 * block + bit as usize) as u16;
         if continues_at(task, candidates, stops, image, used, placed, atom) {
             return true;
         }
@@ -106,9 +140,10 @@ fn continues_near(
 {
     let place = usize::from(stops[placed].place);
     let bond = &task.graph.bonds[usize::from(stops[placed].bond)];
+    let free = candidates.word(place, 0) & !used;
     let neighbours = task.mol.neighbours(from);
     for (atom, by) in neighbours {
-        if !candidates.has(place, *atom) {
+        if !is_free(candidates, place, free, *atom) {
             continue;
         }
         if !bond_true(&bond.expr, task.mol, *by) {
@@ -121,8 +156,9 @@ fn continues_near(
     false
 }
 
-// The same with the next place at that atom.
+// The same with the next place at that atom, which is not taken if it is one of the first 64.
 #[cycle(hunt)]
+#[inline(always)]
 fn continues_at(
     task: &Task,
     candidates: &Candidates,
@@ -144,7 +180,7 @@ fn continues_at(
         → slice_index whole (stop_at stops.now placed).place ≡ atom → ⊥ }
 {
     let stop = stops[placed];
-    if !may_take(task, image, used, stop, atom) {
+    if !may_take(task, image, stop, atom) {
         return false;
     }
     let place = usize::from(stop.place);
@@ -164,37 +200,52 @@ fn continues_at(
     false
 }
 
-// Whether the place of a stop, of which the atom is a candidate, may stand there.
-fn may_take(task: &Task, image: &[u16], used: u64, stop: Placement, atom: u16) -> bool
+// The candidates of a place in a block, but for those that are taken, as far as the word has these.
+fn free_in(task: &Task, candidates: &Candidates, used: u64, place: usize, block: usize) -> u64
+    requires place { place < MOST_PLACES }
+    requires block { block < 16 }
+    ensures within { (i : ℕ) → i < 64 → bit_at result i ≡ 1 → 64 * block + i < length task.now.mol.now.atoms }
+    ensures all { (i : ℕ) → i < 64 → 64 * block + i < length task.now.mol.now.atoms
+        → IsCandidate candidates.now.words.items place (64 * block + i)
+        → bit_at used (64 * block + i) ≢ 1 → bit_at result i ≡ 1 }
+{
+    let word = candidates.word(place, block) & all_in(task.mol, block);
+    if block == 0 { word & !used } else { word }
+}
+
+// Whether an atom is a candidate of the place, and not taken. The word has those of the first 64.
+#[inline(always)]
+fn is_free(candidates: &Candidates, place: usize, free: u64, atom: u16) -> bool
+    requires { place < MOST_PLACES }
+    ensures low { atom < 64 → IsTrue result ↔ bit_at free atom ≡ 1 }
+    ensures high { 64 ≤ atom → IsTrue result ↔ IsCandidate candidates.now.words.items place atom }
+{
+    if usize::from(atom) < MOST_BITS {
+        has(free, atom)
+    } else {
+        candidates.has(place, atom)
+    }
+}
+
+// Whether the place of a stop may stand at an atom, which is a candidate, and not taken if it is one of the first 64.
+#[inline(always)]
+fn may_take(task: &Task, image: &[u16], stop: Placement, atom: u16) -> bool
     requires ready { IsReadyTask task.now }
     requires room { length task.now.graph.now.atoms.items ≤ length image.now }
-    requires used { AreTaken task.now used image.now }
     requires place { stop.place < length task.now.graph.now.atoms.items }
     requires free { length task.now.mol.now.atoms ≤ slice_index image.now stop.place }
     requires atom { atom < length task.now.mol.now.atoms }
     ensures { result ≡ false → (whole : List ℕ) → Continues task.now image.now whole
         → slice_index whole stop.place ≡ atom → ⊥ }
 {
-    let places = task.graph.atoms.len();
-    if !may_be_new(task, &image[..places], used, atom) {
+    let taken = &image[..task.graph.atoms.len()];
+    if usize::from(atom) >= MOST_BITS && !is_new(taken, atom) {
         return false;
     }
-    if !keeps_groups(task, &image[..places], usize::from(stop.place), atom) {
+    if !keeps_groups(task, taken, usize::from(stop.place), atom) {
         return false;
     }
-    stop.bond == NO_BOND || closes(task, image, stop, atom)
-}
-
-// Whether the atom is none of those of the places. In a molecule of at most 64 atoms the word has these.
-fn may_be_new(task: &Task, places: &[u16], used: u64, atom: u16) -> bool
-    requires used { (a : ℕ) → bit_at used a ≡ 1 → Contains places.now a }
-    requires atom { atom < length task.now.mol.now.atoms }
-    ensures { result ≡ false → ¬ ¬ Contains places.now atom }
-{
-    if task.mol.atoms().len() > MOST_BITS {
-        return is_new(places, atom);
-    }
-    !has(used, atom)
+    stop.closing == NO_BOND || stop.bond == NO_BOND || closes(task, image, stop, atom)
 }
 
 /// The word of the atoms that are taken with one more, if it has a bit for that one.
@@ -216,9 +267,6 @@ fn closes(task: &Task, image: &[u16], stop: Placement, atom: u16) -> bool
     ensures { result ≡ false → (whole : List ℕ) → Continues task.now image.now whole
         → slice_index whole stop.place ≡ atom → ⊥ }
 {
-    if stop.closing == NO_BOND {
-        return true;
-    }
     if stop.closing != EVERY_BOND {
         return may_close(task, image, stop.place, stop.closing, atom);
     }

@@ -29,12 +29,15 @@ pub const NO_PLACEMENT: Placement = Placement {
     closing: EVERY_BOND,
 };
 
-/// The order of a search in a graph of which bonds join all places, from one that few atoms can take. It is empty where
-/// the search for the least embedding serves as well.
+/// The order of a search in a graph. Where bonds join all places, it begins at one that few atoms can take; it is empty
+/// where the search for the least embedding serves as well. Where they do not, it is one after another the orders of
+/// components of several places.
 #[derive(Debug, Drop)]
 pub struct Order {
     stops: Vec<Placement>,
     laid: usize,
+    // whether bonds do not join all places
+    is_loose: bool,
     ghost room: { laid ≤ vec_len stops },
 }
 
@@ -44,12 +47,23 @@ impl Order {
         Ok(Order {
             stops: vec![in alloc; NO_PLACEMENT; MOST_PLACES]?,
             laid: 0,
+            is_loose: false,
         })
     }
 
     /// Lays the order for a graph.
     pub fn lay(&mut self, graph: &Graph, steps: &[EarlierBonds]) {
-        self.laid = lay_rare(graph, steps, &mut self.stops);
+        self.is_loose = is_loose(steps);
+        self.laid = if self.is_loose {
+            lay_components(graph, steps, &mut self.stops)
+        } else {
+            lay_rare(graph, steps, &mut self.stops)
+        };
+    }
+
+    /// Whether the stops are those of components.
+    pub fn is_loose(&self) -> bool {
+        self.is_loose
     }
 
     /// The stops of the order.
@@ -72,13 +86,39 @@ pub fn start_at(place: u16) -> Placement {
     }
 }
 
+// Lays the components of several places, of a graph of at most 64. How many places they have.
+fn lay_components(graph: &Graph, steps: &[EarlierBonds], stops: &mut [Placement]) -> usize
+    ensures { result ≤ length stops.old }
+{
+    let places = graph.atoms.len();
+    if places > 64 {
+        return 0;
+    }
+    let mut laid = 0;
+    for place in 0..places as u16 {
+        if begins_component(steps, usize::from(place)) {
+            laid += lay_noted(&graph.bonds, start_at(place), &mut stops[laid..]);
+        }
+    }
+    laid
+}
+
+// Whether the place is the first of a component of several.
+fn begins_component(steps: &[EarlierBonds], place: usize) -> bool {
+    let mut steps = steps.iter().skip(place);
+    match (steps.next(), steps.next()) {
+        (Some(here), Some(next)) => here.from >= here.to && next.from < next.to,
+        _ => false,
+    }
+}
+
 // Lays an order from a place where few atoms stand. How many places it has: none where there is no such place, or where
-// it is the first, or of a graph of one place, of more than 64, or of some that no bond joins.
+// it is the first, or of a graph of one place or of more than 64.
 fn lay_rare(graph: &Graph, steps: &[EarlierBonds], stops: &mut [Placement]) -> usize
     ensures { result ≤ length stops.old }
 {
     let places = graph.atoms.len();
-    if places < 2 || places > 64 || is_loose(steps) {
+    if places < 2 || places > 64 {
         return 0;
     }
     match rare_start(&graph.bonds, steps) {
@@ -184,9 +224,9 @@ struct Laid {
     seen: u64,
 }
 
-/// Lays the places of a graph of at most 64 in an order from the start, by its bond first if it has one. Returns how
+// Lays the places of a graph of at most 64 in an order from the start, by its bond first if it has one. Returns how
 /// many they are.
-pub fn lay(bonds: &[PatBond], start: Placement, stops: &mut [Placement]) -> usize
+fn lay(bonds: &[PatBond], start: Placement, stops: &mut [Placement]) -> usize
     ensures { result ≤ length stops.old }
 {
     let first = Laid {

@@ -4,7 +4,6 @@ ghost use Rattle.std.specs.Prelude.{◌≤◌, vec_len};
 use crate::candidates::Candidates;
 use crate::choices::Choices;
 use crate::grouping::Grouping;
-use crate::lay::{NO_PLACEMENT, Placement};
 use crate::narrow::Narrowing;
 use crate::planned::MOST_PLACES;
 use crate::prepare::Prepared;
@@ -30,7 +29,6 @@ pub struct Memory {
     pub candidates: Candidates,
     pub narrowing: Narrowing,
     pub grouping: Grouping,
-    pub stops: Vec<Placement>,
     ghost image_room: { 256 ≤ vec_len image },
 }
 
@@ -68,7 +66,6 @@ impl Memory {
             candidates: Candidates::reserve(alloc)?,
             narrowing: Narrowing::reserve(alloc)?,
             grouping: Grouping::reserve(alloc)?,
-            stops: vec![in alloc; NO_PLACEMENT; MOST_PLACES]?,
         })
     }
 }
