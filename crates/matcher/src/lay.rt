@@ -225,7 +225,7 @@ struct Laid {
 }
 
 // Lays the places of a graph of at most 64 in an order from the start, by its bond first if it has one. Returns how
-/// many they are.
+// many they are.
 fn lay(bonds: &[PatBond], start: Placement, stops: &mut [Placement]) -> usize
     ensures { result ≤ length stops.old }
 {
