@@ -15,6 +15,7 @@ mod Lifts
 mod Loads
 mod Logged
 mod NextItem
+mod NoJournal
 mod OnDisks
 mod OnePair
 mod OneWay

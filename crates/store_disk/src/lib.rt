@@ -7,6 +7,9 @@
 //!
 //! `compact` copies the store, some items at a time, to the disk that is not read: the states at the version at which it
 //! began, and then the commits made since. A copy that lacks nothing takes the place of the disk that is read.
+//!
+//! `Store::in_memory` makes a store that is never opened again. It keeps no journal, and its copies are written to
+//! nowhere.
 #![tactic(auto)]
 
 mod compact;

@@ -6,6 +6,7 @@ ghost use Rattle.std.specs.Prelude.{◌≡◌, ◌≤◌, ◌+◌, ◌*◌, ◌�
 ghost use Rattle.std.specs.Arc.{arc_value};
 ghost use Rattle.disk_edge.specs.Disk.{Faulted, IfTold, Rose};
 ghost use Rattle.disk_edge.specs.Failures.{bound_of};
+ghost use Rattle.disk_edge.specs.NoDisk as nothing;
 ghost use Rattle.disk_pair.specs.Changed.{changed};
 ghost use Rattle.disk_pair.specs.Term.{disk_a, disk_b, first_of};
 ghost use Rattle.disk_pair.specs.declared.choice.Which.TheVariants.{First, Second};
@@ -36,9 +37,9 @@ use crate::payload::payload_of;
 use crate::replay::replay;
 use chem_core::Print;
 use commit_log::{read_all, read_base};
-use disk_edge::{Disk, MemDisk};
+use disk_edge::{Disk, MemDisk, NoDisk};
 use disk_pair::{Pair, Picked, PutFault, Which, a_pair_opens_one_way};
-use journal_core::{Journal, LoadFault};
+use journal_core::{Header, Journal, LoadFault};
 use snap_registry::Pin;
 use std::alloc::{AllocError, Global};
 use std::marker::Model;
@@ -51,6 +52,16 @@ use store_machine::rebases_keep;
 
 // Where the version of the base stands in format 2.
 const VERSION_PLACE: u64 = 12;
+
+// What a disk says of itself to which nothing was copied.
+const NO_BASE: Header = Header {
+    generation: 0,
+    base_version: 0,
+    base_count: 0,
+};
+
+// Where the first gate stands in format 1.
+const FIRST_GATE: u64 = 8;
 
 /// A store on two disks, with any number of callers. A commit that answers `DiskFault` is not made, and the store
 /// serves on. With `doubt: true` a load may still find that commit, until a later commit ends the doubt.
@@ -154,6 +165,30 @@ impl<D: Disk + Drop> Store<D> {
     {
         let (a, b) = self.pair.into_disks();
         Disks { a, b }
+    }
+}
+
+impl Store<NoDisk> {
+    /// A store without commits that keeps no journal, since it is never opened again. It takes `commits` commits in
+    /// all, 1 to `MOST_COMMITS`. Takes no memory.
+    pub fn in_memory(alloc: Global, commits: u32) -> Store<NoDisk>
+        requires some { 1 ≤ commits }
+        requires few { commits ≤ MOST_COMMITS }
+        ensures { StandsFor nothing.model result (empty commits) }
+    {
+        Store {
+            alloc,
+            memory: Memory::fresh(alloc, commits),
+            pair: Pair::new(
+                alloc,
+                Picked {
+                    journal: Journal::at_gate(alloc, NoDisk, NO_BASE, FIRST_GATE),
+                    other: NoDisk,
+                    second: false,
+                },
+            ),
+            copy: None,
+        }
     }
 }
 

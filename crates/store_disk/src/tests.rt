@@ -2,17 +2,17 @@
 //! disk and on two.
 
 use crate::{Disks, Store};
-use disk_edge::MemDisk;
+use disk_edge::{Disk, MemDisk};
 use journal_core::LoadFault;
 use mol_finish::Format;
 use std::alloc::Global;
 use std::test::Fail;
-use store_core::{Change, CommitFault, Compact, CompactFault, Record, Service};
+use store_core::{Change, CommitFault, Compact, CompactFault, Look, Record, Service};
 
 // Registers a SMILES under an identifier.
-fn register(
+fn register<D: Disk + Drop>(
     alloc: Global,
-    store: &mut Store<MemDisk>,
+    store: &mut Store<D>,
     id: u32,
     text: &[u8],
 ) -> Result<u32, CommitFault> {
@@ -43,6 +43,25 @@ fn version(alloc: Global, disks: Disks<MemDisk>) -> Result<u32, LoadFault> {
         }
         Err((fault, _)) => Err(fault),
     }
+}
+
+#[test]
+fn a_store_without_a_journal_serves(rt: HostRuntime) -> Result<(), Fail> {
+    let alloc = rt.alloc();
+    let mut store = Store::in_memory(alloc, 2);
+    assert_eq!(rt; register(alloc, &mut store, 1, b"CCO"), Ok(1));
+    assert_eq!(rt; store.compact(), Ok(Compact::More { left: 1 }));
+    assert_eq!(rt; store.compact(), Ok(Compact::More { left: 0 }));
+    assert_eq!(rt; store.compact(), Ok(Compact::Done { generation: 1 }));
+    assert_eq!(rt; store.commit(Change::Withdraw(1)), Ok(2));
+    let Ok(Look::Withdrawn { version: 2 }) = store.look(1) else {
+        return Err(Fail::new("not withdrawn"));
+    };
+    assert_eq!(rt;
+        register(alloc, &mut store, 2, b"C"),
+        Err(CommitFault::Full)
+    );
+    Ok(())
 }
 
 #[test]
