@@ -1,8 +1,7 @@
 -- At which atoms of a block some embedding of a graph begins: the candidates of its first place are asked in turn.
-use Rattle.std.proofs.Common.{◌≡◌, ◌↔◌, ◌+◌, ◌*◌, ◌/◌, ◌%◌, ◌^◌, ◌<◌, ◌≤◌, ◌∙◌, ℕ, List, [], ◌∷◌, bit_and, get_or, length, slice_get, slice_index, Some, inl, inr, refl, subst, sym, ap, arith, w64}
+use Rattle.std.proofs.Common.{◌≡◌, ◌↔◌, ◌+◌, ◌*◌, ◌^◌, ◌<◌, ◌≤◌, ◌∙◌, ℕ, List, [], ◌∷◌, bit_and, length, slice_get, Some, inl, inr, refl, subst, sym, arith, w64}
 use Rattle.std.specs.Int.{bit_at, trailing_zeros}
 use Rattle.std.proofs.lemmas.Bool.{cases_eq}
-use Rattle.std.proofs.lemmas.List.{get_or_default}
 use Rattle.std.proofs.lemmas.Nat.Bits.{bit_at-lt, bit_at_and, bit_at_clear_other}
 use Rattle.std.proofs.lemmas.Option.{slice_get_within}
 use Rattle.chem_core.specs.declared.mol.Atom.{Atom}

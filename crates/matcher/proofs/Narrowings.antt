@@ -115,10 +115,10 @@ near_reach task marks near all image e j x y marked joined =
 
 -- neighbours by ring bonds are near by bonds on rings
 pub ring_reach : (task : Task) (marks : List Bool) (near : List ℕ) → AreOnRings task marks
-    → AreRingNear task.mol.now near → IsReach task marks near
+    → ((j : ℕ) → IsMarked marks j → AreRingNear task.mol.now near) → IsReach task marks near
 ring_reach task marks near rings all image e j x y marked joined =
     let there = embedded task image j x y e joined in
-    all there.0 (slice_index image x) (slice_index image y) there.1
+    all j marked there.0 (slice_index image x) (slice_index image y) there.1
     (rings j marked image e x y there.0 joined there.1)
 
 -- no place yet

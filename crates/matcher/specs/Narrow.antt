@@ -20,11 +20,12 @@ abbrev pub AreRingNear : Molecule → List ℕ → Type 0
 AreRingNear m near = (b x y : ℕ) → JoinsAt (ends_of m) b x y → IsRingBond (ends_of m) b
     → bit_at (slice_index near x) y ≡ 1
 
--- what was noted is so; that of all neighbours, if a bond of the graph is open
+-- what was noted is so; that of all neighbours, if a bond of the graph is open, and that by ring bonds, if one is on a
+-- ring
 pub record IsNoted (task : Task) (on_ring is_open : List Bool) (all ring : List ℕ) : Type 0 where
   pub marks : AreOnRings task on_ring
   pub near : (j : ℕ) → IsMarked is_open j → AreNear task.mol.now all
-  pub ring_near : AreRingNear task.mol.now ring
+  pub ring_near : (j : ℕ) → IsMarked on_ring j → AreRingNear task.mol.now ring
 
 -- each embedding takes the ends of a marked bond to an atom and one of those near it
 abbrev pub IsReach : Task → List Bool → List ℕ → Type 0

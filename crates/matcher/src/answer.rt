@@ -91,17 +91,16 @@ fn matches(pattern: &Pattern, prepared: &Prepared, mol: &Mol, memory: &mut Memor
     if lacks_atom(pattern, prepared.plans.top(pattern), mol) {
         return false;
     }
-    let order = &prepared.order;
     match only_part(pattern) {
         Some(part) => {
             note_parts(pattern, prepared, mol, memory, part);
             let steps = prepared.plans.part(pattern, part);
-            exists(&pattern.recs[part], steps, order, mol, memory)
+            exists(&pattern.recs[part], steps, prepared, mol, memory)
         }
         None => {
             note_parts(pattern, prepared, mol, memory, pattern.recs.len());
             let steps = prepared.plans.top(pattern);
-            exists(&pattern.top, steps, order, mol, memory)
+            exists(&pattern.top, steps, prepared, mol, memory)
         }
     }
 }
@@ -110,7 +109,7 @@ fn matches(pattern: &Pattern, prepared: &Prepared, mol: &Mol, memory: &mut Memor
 fn exists(
     graph: &Graph,
     steps: &[EarlierBonds],
-    order: &Order,
+    prepared: &Prepared,
     mol: &Mol,
     memory: &mut Memory,
 ) -> bool
@@ -126,6 +125,7 @@ fn exists(
     let candidates = &mut memory.candidates;
     if is_refused(
         &task,
+        prepared.closing.bonds(),
         candidates,
         &mut memory.narrowing,
         &mut memory.grouping,
@@ -135,7 +135,7 @@ fn exists(
     }
     let candidates = &memory.candidates;
     let image = &mut memory.image;
-    if let Some(found) = seek(&task, candidates, order, image) {
+    if let Some(found) = seek(&task, candidates, &prepared.order, image) {
         return found;
     }
     place_least(&task, candidates, image, &mut memory.choices)
@@ -244,6 +244,7 @@ fn find(pattern: &Pattern, prepared: &Prepared, mol: &Mol, memory: &mut Memory) 
     let candidates = &mut memory.candidates;
     if is_refused(
         &task,
+        prepared.closing.bonds(),
         candidates,
         &mut memory.narrowing,
         &mut memory.grouping,
@@ -255,10 +256,11 @@ fn find(pattern: &Pattern, prepared: &Prepared, mol: &Mol, memory: &mut Memory) 
     place_least(&task, &memory.candidates, image, &mut memory.choices)
 }
 
-// Whether it is found before any search that the graph has no embedding. If not, the candidates of its places are
-// found.
+// Whether it is found before any search that the graph, of which these bonds may close rings, has no embedding. If not,
+// the candidates of its places are found.
 fn is_refused(
     task: &Task,
+    closing: &[u16],
     candidates: &mut Candidates,
     narrowing: &mut Narrowing,
     grouping: &mut Grouping,
@@ -268,7 +270,7 @@ fn is_refused(
     ensures refused { IsTrue result → ¬ Completes task.now [] }
     ensures candidates { result ≡ false → AreCandidates task.now candidates.new.words.items }
 {
-    if lacks_ring(task) {
+    if lacks_ring(task, closing) {
         return true;
     }
     if task.graph.atoms.len() > FEW_PLACES && is_crowded(task) {
@@ -278,7 +280,7 @@ fn is_refused(
     if lacks_candidate(task, candidates) {
         return true;
     }
-    if narrowing.refuse(task, candidates) {
+    if narrowing.refuse(task, closing, candidates) {
         return true;
     }
     if lacks_bond(task, candidates) {

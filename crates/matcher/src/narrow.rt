@@ -6,7 +6,7 @@ ghost use Rattle.std.specs.Int.{bit_at};
 ghost use Rattle.smarts_parse.specs.Pattern.{graph_of};
 ghost use Rattle.matcher.specs.Candidates.{AreCandidates};
 ghost use Rattle.matcher.specs.Narrow.{AreNear, AreRingNear, HasAround, IsNarrowed, IsReach, around_at, more_around};
-ghost use Rattle.matcher.specs.Ring.{IsMarked};
+ghost use Rattle.matcher.specs.Ring.{AreOnRings, IsMarked};
 ghost use Rattle.matcher.specs.Task.{Completes, IsReadyTask};
 
 use crate::candidates::{Candidates, MOST_BITS, MOST_WORDS};
@@ -91,8 +91,9 @@ impl Narrowing {
         self.credit = MOST_CREDIT;
     }
 
-    /// Takes away candidates, if that pays for the pattern. Whether it is found that the graph has no embedding.
-    pub fn refuse(&mut self, task: &Task, candidates: &mut Candidates) -> bool
+    /// Takes away candidates, if that pays for the pattern, of which these bonds may close rings. Whether it is found
+    /// that the graph has no embedding.
+    pub fn refuse(&mut self, task: &Task, closing: &[u16], candidates: &mut Candidates) -> bool
         requires ready { IsReadyTask task.now }
         requires candidates { AreCandidates task.now candidates.old.words.items }
         ensures refused { IsTrue result → ¬ Completes task.now [] }
@@ -104,7 +105,7 @@ impl Narrowing {
         if task.mol.atoms().len() > MOST_BITS {
             return false;
         }
-        self.reach.note(task);
+        self.reach.note(task, closing);
         let words = &mut candidates.words;
         let refused = self.reach.narrow(task, &mut self.around, words);
         self.credit = if refused {
@@ -135,16 +136,15 @@ impl Reach {
     }
 
     // Notes the neighbours of each atom, and which bonds of the graph lie on its rings.
-    fn note(&mut self, task: &Task)
+    fn note(&mut self, task: &Task, closing: &[u16])
         requires ready { IsReadyTask task.now }
         requires few { length task.now.mol.now.atoms ≤ 64 }
         ensures { IsNoted task.now self.new.on_ring.items self.new.is_open.items self.new.near.items
             self.new.ring_near.items }
     {
-        mark_rings(task, &mut self.on_ring);
+        note_rings(task, closing, &mut self.on_ring, &mut self.ring_near);
         let open = !has_all(task, &self.on_ring);
         note_open(task.mol, open, &mut self.is_open, &mut self.near);
-        note_ring_neighbours(task.mol, &mut self.ring_near);
     }
 
     // Takes away candidates of each place. Whether one has none left.
@@ -182,6 +182,22 @@ impl Reach {
         narrow_all(task, &self.on_ring, &self.ring_near, around, words)
             || narrow_all(task, &self.is_open, &self.near, around, words)
     }
+}
+
+// Notes which bonds of the graph lie on its rings, and if some may, for each atom its neighbours by ring bonds.
+fn note_rings(task: &Task, closing: &[u16], on_ring: &mut [bool], near: &mut [u64])
+    requires ready { IsReadyTask task.now }
+    requires atoms { length task.now.mol.now.atoms ≤ 64 }
+    requires room { length near.old ≡ 64 }
+    ensures marks { AreOnRings task.now on_ring.new }
+    ensures near { (j : ℕ) → IsMarked on_ring.new j → AreRingNear task.now.mol.now near.new }
+{
+    if closing.is_empty() {
+        on_ring.fill(false);
+        return;
+    }
+    mark_rings(task, closing, on_ring);
+    note_ring_neighbours(task.mol, near);
 }
 
 // Notes the same for all bonds of the graph: whether some are open. Only by these are all neighbours near.

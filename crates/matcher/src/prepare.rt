@@ -1,10 +1,11 @@
 //! What is worked out of a pattern alone, once for searches in any number of molecules: the steps of its graphs, the
-//! atoms at which its recursive parts are asked, and an order for the search.
+//! atoms at which its recursive parts are asked, an order for the search, and the bonds that may close rings.
 ghost use Rattle.std.specs.Prelude.{◌≡◌, ◌+◌, ◌∷◌, [], length, map, IfSome};
 ghost use Rattle.smarts_parse.specs.Pattern.{Prim, term_of};
 
 use crate::lay::Order;
 use crate::planned::Plans;
+use crate::ring::Closing;
 use crate::wanted::Wanted;
 use smarts_parse::{AtomPrim, Expr, Pattern};
 use std::alloc::{AllocError, Global};
@@ -15,6 +16,7 @@ pub struct Prepared {
     pub plans: Plans,
     pub wanted: Wanted,
     pub order: Order,
+    pub closing: Closing,
 }
 
 impl Prepared {
@@ -28,6 +30,7 @@ impl Prepared {
             plans: Plans::reserve(alloc)?,
             wanted: Wanted::reserve(alloc)?,
             order: Order::reserve(alloc)?,
+            closing: Closing::reserve(alloc)?,
         })
     }
 
@@ -39,10 +42,16 @@ impl Prepared {
         self.plans.plan(pattern);
         self.wanted.find(pattern);
         match only_part(pattern) {
-            Some(part) => self
-                .order
-                .lay(&pattern.recs[part], self.plans.part(pattern, part)),
-            None => self.order.lay(&pattern.top, self.plans.top(pattern)),
+            Some(part) => {
+                let steps = self.plans.part(pattern, part);
+                self.order.lay(&pattern.recs[part], steps);
+                self.closing.find(&pattern.recs[part], steps);
+            }
+            None => {
+                let steps = self.plans.top(pattern);
+                self.order.lay(&pattern.top, steps);
+                self.closing.find(&pattern.top, steps);
+            }
         }
     }
 }

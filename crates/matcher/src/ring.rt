@@ -1,6 +1,6 @@
 //! Rings of a graph. An embedding takes each to a ring of the molecule, so its atoms stand where the smallest ring is
 //! no longer. A ring is found as a bond between two places and a way between them along first bonds.
-ghost use Rattle.std.specs.Prelude.{◌≡◌, ◌≢◌, ◌<◌, ◌≤◌, ◌+◌, [], ℕ, List, false, length, slice_index, slice_index_or, Contains, IfSome, IsTrue};
+ghost use Rattle.std.specs.Prelude.{◌≡◌, ◌≢◌, ◌<◌, ◌≤◌, ◌+◌, [], ℕ, List, false, length, slice_index, slice_index_or, vec_len, Contains, IfSome, IsTrue};
 ghost use Rattle.chem_core.specs.Graph.{IsSimpleCycle, JoinsAt};
 ghost use Rattle.chem_core.specs.Molecule.{ends_of};
 ghost use Rattle.smarts_parse.specs.Pattern.{graph_of};
@@ -12,18 +12,86 @@ ghost use Rattle.matcher.specs.Task.{Completes, Embeds, IsReadyTask};
 use crate::class::may_be;
 use crate::fit::Task;
 use crate::narrow::may_narrow;
+use crate::plan::EarlierBonds;
+use crate::planned::MOST_PLACES;
+use smarts_parse::{Graph, PatBond};
+use std::alloc::{AllocError, Global};
 
-/// Whether a ring of the graph can lie at no ring of the molecule, as far as lengths and classes show. It is not asked
-/// of a graph of few bonds, which mostly has no ring, and not where candidates may be narrowed: that shows more.
-pub fn lacks_ring(task: &Task) -> bool
+/// The bonds of a graph that may close rings. Nothing is promised of them.
+#[derive(Debug, Drop)]
+pub struct Closing {
+    bonds: Vec<u16>,
+    count: usize,
+    ghost room: { count ≤ vec_len bonds },
+}
+
+impl Closing {
+    /// Takes the memory.
+    pub fn reserve(alloc: Global) -> Result<Closing, AllocError> {
+        Ok(Closing {
+            bonds: vec![in alloc; 0; MOST_PLACES]?,
+            count: 0,
+        })
+    }
+
+    /// Finds the bonds of a graph.
+    pub fn find(&mut self, graph: &Graph, steps: &[EarlierBonds]) {
+        self.count = find_closing(&graph.bonds, steps, &mut self.bonds);
+    }
+
+    /// The bonds, by their numbers.
+    pub fn bonds(&self) -> &[u16] {
+        &self.bonds[..self.count]
+    }
+}
+
+// Finds the bonds that lead to an earlier place as others before them do. How many they are.
+fn find_closing(bonds: &[PatBond], steps: &[EarlierBonds], found: &mut [u16]) -> usize
+    ensures { result ≤ length found.old }
+{
+    let mut count = 0;
+    for (place, bond) in bonds.iter().enumerate() {
+        if !is_first(bond, place, steps) {
+            count = put(found, count, place);
+        }
+    }
+    count
+}
+
+// Whether a bond is the first that leads to an earlier place from its place.
+fn is_first(bond: &PatBond, place: usize, steps: &[EarlierBonds]) -> bool {
+    match steps.get(usize::from(bond.a.max(bond.b))) {
+        Some(step) => step.from == place,
+        None => false,
+    }
+}
+
+// Puts a bond at the end, if there is room. The new end.
+fn put(found: &mut [u16], count: usize, bond: usize) -> usize
+    requires { count ≤ length found.old }
+    ensures { result ≤ length found.old }
+{
+    match (found.get_mut(count), u16::try_from(bond)) {
+        (Some(slot), Ok(number)) => {
+            *slot = number;
+            count + 1
+        }
+        _ => count,
+    }
+}
+
+/// Whether a ring of the graph that one of these bonds closes can lie at no ring of the molecule, as far as lengths and
+/// classes show. It is not asked where candidates may be narrowed: that shows more.
+pub fn lacks_ring(task: &Task, closing: &[u16]) -> bool
     requires { IsReadyTask task.now }
     ensures { IsTrue result → ¬ Completes task.now [] }
 {
-    if task.graph.bonds.len() < task.graph.atoms.len() || may_narrow(task) {
+    if closing.is_empty() || may_narrow(task) {
         return false;
     }
-    for place in 0..task.graph.bonds.len() {
-        if lacks_closed(task, place) {
+    for bond in closing {
+        let place = usize::from(*bond);
+        if place < task.graph.bonds.len() && lacks_closed(task, place) {
             return true;
         }
     }
@@ -51,14 +119,17 @@ fn lacks_closed(task: &Task, place: usize) -> bool
     !has_ring_atom(task, low, links)
 }
 
-/// Marks bonds of the graph that lie on its rings, and no others.
-pub fn mark_rings(task: &Task, marks: &mut [bool])
+/// Marks bonds of the graph that lie on rings that one of these bonds closes, and no others.
+pub fn mark_rings(task: &Task, closing: &[u16], marks: &mut [bool])
     requires { IsReadyTask task.now }
     ensures { AreOnRings task.now marks.new }
 {
     marks.fill(false);
-    for place in 0..task.graph.bonds.len() {
-        mark_closed(task, marks, place);
+    for bond in closing {
+        let place = usize::from(*bond);
+        if place < task.graph.bonds.len() {
+            mark_closed(task, marks, place);
+        }
     }
 }
 

@@ -1,5 +1,5 @@
 -- Each atom is tried in turn.
-use Rattle.std.proofs.Common.{◌≡◌, ◌∙◌, ◌*◌, ◌%◌, ◌^◌, ◌+◌, ◌-◌, ◌<◌, ap, arith, below_more, bit_and, get_or, inl, inr, length, refl, rules, set, slice_index, subst, sym, w64}
+use Rattle.std.proofs.Common.{◌≡◌, ◌∙◌, ◌*◌, ◌%◌, ◌^◌, ◌+◌, ◌-◌, ◌<◌, ap, arith, below_more, get_or, inl, inr, length, refl, rules, set, slice_index, subst, sym, w64}
 use Rattle.std.specs.Int.{bit_at, bit_not, trailing_zeros}
 use Rattle.std.proofs.lemmas.Bool.{cases_eq, cases_lt, iff_false}
 use Rattle.std.proofs.lemmas.List.{length-map, length-set, set-get_or, set-set}

@@ -8,22 +8,23 @@ pub returns : goal.returns
 returns c =
     let task = c.args.task.now in
     let reach = c.args.self.now in
-    let marks : length c.mark_rings.new.marks ≡ reach.on_ring.len = omega
-    (arith, c.deref_mut.ensures.len, c.mark_rings.auto.marks) in
+    let marks : length c.note_rings.new.on_ring ≡ reach.on_ring.len = omega
+    (arith, c.deref_mut.ensures.len, c.note_rings.auto.on_ring) in
+    let ring : length c.note_rings.new.near ≡ reach.ring_near.len = omega
+    (arith, c.deref_mut-2.ensures.len, c.note_rings.auto.near) in
     let open' : length c.note_open.new.is_open ≡ reach.is_open.len = omega
-    (arith, c.deref_mut-2.ensures.len, c.note_open.auto.is_open) in
+    (arith, c.deref_mut-3.ensures.len, c.note_open.auto.is_open) in
     let near : length c.note_open.new.near ≡ reach.near.len = omega
-    (arith, c.deref_mut-3.ensures.len, c.note_open.auto.near) in
-    let ring : length c.note_ring_neighbours.new.near ≡ reach.ring_near.len = omega
-    (arith, c.deref_mut-4.ensures.len, c.note_ring_neighbours.auto.near) in
+    (arith, c.deref_mut-4.ensures.len, c.note_open.auto.near) in
     record {
-      marks = subst (AreOnRings task) (sym (take_all reach.on_ring.len c.mark_rings.new.marks _ (sym marks)))
-          c.mark_rings.ensures;
+      marks = subst (AreOnRings task) (sym (take_all reach.on_ring.len c.note_rings.new.on_ring _ (sym marks)))
+          c.note_rings.ensures.marks;
       near = λ j marked. subst (AreNear task.mol.now)
           (sym (take_all reach.near.len c.note_open.new.near _ (sym near)))
           (c.note_open.ensures j (subst (λ marks. IsMarked marks j)
           (take_all reach.is_open.len c.note_open.new.is_open _ (sym open')) marked));
-      ring_near = subst (AreRingNear task.mol.now)
-          (sym (take_all reach.ring_near.len c.note_ring_neighbours.new.near _ (sym ring)))
-          c.note_ring_neighbours.ensures;
+      ring_near = λ j marked. subst (AreRingNear task.mol.now)
+          (sym (take_all reach.ring_near.len c.note_rings.new.near _ (sym ring)))
+          (c.note_rings.ensures.near j (subst (λ marks. IsMarked marks j)
+          (take_all reach.on_ring.len c.note_rings.new.on_ring _ (sym marks)) marked));
     }
