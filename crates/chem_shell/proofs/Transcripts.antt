@@ -235,25 +235,6 @@ pub none_taken : (input : Option (List ℕ)) (n : ℕ) → TakesAtMost input inp
 none_taken None n = tt
 none_taken (Some bytes) n = ([], bytes, refl, refl, omega arith)
 
--- the same in the words of a session for which memory ran out
-nothing_served : (page : ℕ) (h : History) (input before : Option (List ℕ))
-    → IfSome input (λ bytes. Writes before before (λ text. session.IsServed NoMemory page (lines_of bytes) [] text
-    × IsTrueService NoMemory h page (lines_of bytes) [] text))
-nothing_served page h None before = tt
-nothing_served page h (Some bytes) None = tt
-nothing_served page h (Some bytes) (Some old) =
-    ([], ap Some (sym (append-nil old)), (nothing_begins page (lines_of bytes), nothing_is_true h page (lines_of bytes)))
-
-pub served_none : (commits page : ℕ) (input before : Option (List ℕ))
-    → (calls : Calls) × (run : AreOfRun commits calls)
-    × IsScriptServed NoMemory page input input before before calls run.last.history
-served_none commits page input before =
-    let run = none_of_run commits in (
-      [],
-      run,
-      record { script = nothing_served page run.last.history input before; taken = λ f. absurd f },
-    )
-
 -- an end for which memory ran out before anything was served
 pub mem_unmoved : {S K : Type 0} (plan : Plan) (left : S → Option (List ℕ)) (written : K → Option (List ℕ))
     (end : End S K) → ServesMem plan left written end (with_status 8 end)

@@ -1,13 +1,10 @@
--- A run over disks in memory on which no failure is set: no call of it is answered that a disk failed.
-use Rattle.std.proofs.Common.{◌≡◌, ◌&&◌, ap, arith, Bool, cond, inl, inr, List, [], ◌∷◌, None, Option, refl, Some, subst, sym, true, ℕ}
+-- A run over a store that keeps no journal: no call of it is answered that a disk failed.
+use Rattle.std.proofs.Common.{◌≡◌, ◌&&◌, ap, arith, Bool, cond, inl, inr, List, [], ◌∷◌, refl, subst, sym, true, ℕ}
 use Rattle.std.specs.List.{AllByRecursion}
-use Rattle.disk_edge.specs.Failures.{bound_of}
-use Rattle.disk_edge.specs.Medium.{Medium, model}
-use Rattle.disk_edge.specs.MediumLaws.{within}
-use Rattle.disk_pair.specs.Term.{disk_a, disk_b}
+use Rattle.disk_edge.specs.NoDisk.{model}
+use Rattle.disk_edge.specs.declared.no_disk.NoDisk.{NoDisk}
 use Rattle.session_run.specs.Cursors.{Calls}
 use Rattle.store_core.specs.Calls as core
-use Rattle.store_core.specs.Calls.{NotAbove, NotRaised}
 use Rattle.store_core.specs.Stored.{empty}
 use Rattle.store_disk.specs.OnDisk.{StoreTerm}
 use Rattle.store_disk.specs.Stored.{Stretches}
@@ -122,35 +119,13 @@ unfailing (x ∷ xs) s t run calm a b =
           (sure x.before x.owner x.event x.reply x.after calm.0 run.1 rest.a rest.b, rest.calls);
     }
 
-not_above_none : (old new : Option ℕ) → old ≡ Some 0 → NotAbove old new → new ≡ Some 0
-not_above_none None new is h = cc is
-not_above_none (Some n) None is h = absurd h
-not_above_none (Some n) (Some m) is h =
-    let zero : n ≡ 0 = cc is in
-    ap Some (omega (arith, zero, h))
-
--- the stretches of a store on disks in memory
-abbrev pub InMemory : StoreTerm Medium → StoreTerm Medium → State → List Step → State → Type 0
-InMemory = Stretches model
-
--- the bounds that the two disks tell
-abbrev pub bounds : StoreTerm Medium → Option ℕ × Option ℕ
-bounds store = (bound_of (disk_a store.pair).failures, bound_of (disk_b store.pair).failures)
-
--- the calls of a session over a store that begins empty, without failures set
-pub of_calls : (commits : ℕ) (old new : StoreTerm Medium) (calls : Calls)
-    → bound_of (disk_a old.pair).failures ≡ Some 0 → bound_of (disk_b old.pair).failures ≡ Some 0
-    → NotRaised (bounds old) (bounds new) → (made : core.Calls InMemory (λ _. true) old new (empty commits) calls)
+-- the calls of a session over a store that begins empty and keeps no journal
+pub of_calls : (commits : ℕ) (old new : StoreTerm NoDisk) (calls : Calls)
+    → (made : core.Calls (Stretches model) (λ _. true) old new (empty commits) calls)
     → (run : AreOfRun commits calls) × (run.last ≡ made.after)
-of_calls commits old new calls none_a none_b kept made =
-    let bound_a = not_above_none (bounds old).0 (bounds new).0 none_a kept.0 in
-    let bound_b = not_above_none (bounds old).1 (bounds new).1 none_b kept.1 in
-    let few_a = within (disk_a new.pair) 0 bound_a in
-    let few_b = within (disk_b new.pair) 0 bound_b in
-    let a : made.after.faults.a ≡ 0 =
-    (let is = ap (λ (f : Faults). f.a) made.stands.ends.counts in omega (arith, few_a, is)) in
-    let b : made.after.faults.b ≡ 0 =
-    (let is = ap (λ (f : Faults). f.b) made.stands.ends.counts in omega (arith, few_b, is)) in
+of_calls commits old new calls made =
+    let a : made.after.faults.a ≡ 0 = ap (λ (f : Faults). f.a) made.stands.ends.counts in
+    let b : made.after.faults.b ≡ 0 = ap (λ (f : Faults). f.b) made.stands.ends.counts in
     let none = unfailing made.steps (empty commits) made.after made.stands.run made.stands.calm a b in (
       record {
         steps = made.steps;

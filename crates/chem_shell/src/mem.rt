@@ -1,4 +1,4 @@
-//! `mem`: a session over a store in memory, which keeps its journal on a disk in memory.
+//! `mem`: a session over a store in memory, which keeps no journal.
 ghost use Rattle.std.specs.Prelude.{◌≡◌, ◌≢◌};
 ghost use Rattle.io_edge.specs.Faults.{Rose};
 ghost use Rattle.session_run.specs.Cursors.{Calls};
@@ -34,7 +34,7 @@ pub fn serve_mem<R: Threads + Sync, S: Source + Drop, K: Sink + Drop>(
     end.status = end_status(ended);
 }
 
-/// A session over a store in memory, which is made here. Where memory runs out for it, nothing is taken or put.
+/// A session over a store in memory, which is made here and keeps no journal.
 pub fn run_script<R: Threads + Sync, I: Source, O: Sink>(
     rt: &R,
     alloc: Global,
@@ -55,9 +55,7 @@ pub fn run_script<R: Threads + Sync, I: Source, O: Sink>(
         → TakesExactly (I.left source.old) (I.left source.new) INPUT_LIMIT }
 {
     services_are_true();
-    let Ok(mut store) = Store::fresh(alloc, plan.commits) else {
-        return EndStatus::NoMemory;
-    };
+    let mut store = Store::in_memory(alloc, plan.commits);
     session(
         rt,
         alloc,
