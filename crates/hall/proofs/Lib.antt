@@ -8,6 +8,7 @@ pub mod PinSteps
 pub mod Pins
 pub mod Turning
 pub mod Joining
+pub mod Splitting
 pub mod Holding
 pub mod Starting
 pub mod Lasting

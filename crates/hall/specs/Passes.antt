@@ -89,3 +89,10 @@ module _ {D : Type 0} where
       (origin : Origin D) → IsFrom origin q
       → IsRun origin.state (known q).seen (after origin.state (known q).seen) → IsCalm (known q).seen
       → (slot version : ℕ) → HoldsPin q slot version ↔ (HoldsPin p slot version ⊎ HoldsPin o slot version)
+
+  -- the pass holds no pin, where its hall's history begins as an opening leaves it, and what it has seen is a run
+  abbrev pub HoldsNone : HallPass D → Type 0
+  HoldsNone p =
+      (origin : Origin D) → IsFrom origin p → (commits : ℕ) × IsOpened commits origin.state
+      → IsRun origin.state (known p).seen (after origin.state (known p).seen) → IsCalm (known p).seen
+      → (slot version : ℕ) → HoldsPin p slot version → ⊥

@@ -26,9 +26,10 @@ pub struct HallPass<D: Disk> {
 impl<D: Disk + Drop> Hall<D> {
     ghost use Rattle.store_machine.specs.Openings.{IsOpened};
     ghost use Rattle.store_machine.specs.declared.machine.State.{State};
+    ghost use Rattle.store_core.specs.Calls.{SameHeld};
     ghost use Rattle.store_disk.specs.OnDisk.{StandsFor};
     ghost use Rattle.turn_gate.specs.Steps.{giving, given_to};
-    ghost use Rattle.hall.specs.Passes.{Begins, Ends, HasBoth, IsOf, IsRoot, IsWhole, Merged, Runs, known};
+    ghost use Rattle.hall.specs.Passes.{Begins, Ends, HasBoth, HoldsNone, HoldsPin, IsOf, IsRoot, IsWhole, Merged, Runs, known};
 
     /// A hall of a store that was just opened, and its root pass, which is whole and has seen no event. The hall has 2^63
     /// turns. Its history begins at one state for which the store stands, as an opening leaves it. An error gives the
@@ -50,7 +51,8 @@ impl<D: Disk + Drop> Hall<D> {
         }
     }
 
-    /// The root pass gives the next number to a new pass, which has seen what it had seen. Takes no memory.
+    /// The root pass gives the next number to a new pass, which has seen what it had seen, and holds no pin. The root
+    /// pass keeps its pins. Takes no memory.
     pub fn split(&self, pass: &mut HallPass<D>) -> HallPass<D>
         requires of { IsOf self.now pass.old }
         requires root { IsRoot pass.old }
@@ -58,6 +60,8 @@ impl<D: Disk + Drop> Hall<D> {
         ensures other { IsOf self.now result }
         ensures gives { known pass.new ≡ giving (known pass.old) }
         ensures given { known result ≡ given_to (known pass.old) }
+        ensures pins { HoldsNone result }
+        ensures kept { SameHeld (HoldsPin pass.old) (HoldsPin pass.new) }
     {
         HallPass {
             pass: self.gate.split(&mut pass.pass),
