@@ -84,12 +84,11 @@ impl<D: Disk + Drop> Hall<D> {
         ensures room { page.new.room ≡ page.old.room }
     {
         laws::<D>();
+        // The records that the page has are given back before the turn, and not in it.
+        page.clear();
         let mut turn = match pass.pass.turn(rt, &self.gate) {
             Ok(turn) => turn,
-            Err(_) => {
-                page.clear();
-                return Err(CallFault::Worn);
-            }
+            Err(_) => return Err(CallFault::Worn),
         };
         let answer = turn.value().fetch(pin, want, from, limit, page, steps);
         turn.end();
