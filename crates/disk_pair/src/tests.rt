@@ -1,7 +1,7 @@
 //! A finish that is stopped at each call of its disk, and a crash to each image; and a commit behind a doubtful finish.
 
-ghost use Rattle.std.specs.Prelude.{◌≡◌, ◌<◌, ◌^◌, IfOk, None};
-ghost use Rattle.disk_pair.specs.Term.{IsBased, progress_of};
+ghost use Rattle.std.specs.Prelude.{◌≡◌, ◌<◌, ◌^◌, IfOk, None, length};
+ghost use Rattle.disk_pair.specs.Term.{HasRoom, IsBased, LacksBase, progress_of};
 
 use crate::choice::Which;
 use crate::fault::PutFault;
@@ -9,7 +9,7 @@ use crate::opening::{Picked, load};
 use crate::pair::Pair;
 use disk_edge::MemDisk;
 use journal_core::{Header, Journal};
-use std::alloc::Global;
+use std::alloc::{AllocError, Global};
 use std::test::Fail;
 
 // A store of format 1 with one commit, and the payloads of a base record and of a second commit.
@@ -62,6 +62,29 @@ fn copied(alloc: Global) -> Result<Pair<MemDisk>, Fail>
     Ok(pair)
 }
 
+// A base record as long as what gathers in memory.
+fn long(alloc: Global) -> Result<Vec<u8>, AllocError>
+    ensures { IfOk result (λ bytes. length bytes.items ≡ 65536) }
+{
+    vec![in alloc; 0; 65_536]
+}
+
+// A copy of it that has that base record, in memory, and lacks another one.
+fn begun(alloc: Global) -> Result<Pair<MemDisk>, Fail>
+    ensures lacks { IfOk result (λ pair. LacksBase (progress_of pair.other)) }
+    ensures room { IfOk result (λ pair. HasRoom (progress_of pair.other)) }
+{
+    let base = long(alloc)?;
+    let mut pair = pair(alloc)?;
+    if pair.start_copy(1, 2).is_err() {
+        return Err(Fail::new("not started"));
+    }
+    if pair.put_base(&base).is_err() {
+        return Err(Fail::new("no base record"));
+    }
+    Ok(pair)
+}
+
 // The generation of the disk that is read after a crash to these images.
 fn generation(alloc: Global, pair: Pair<MemDisk>, image: u32) -> Result<u32, Fail> {
     let (a, b) = pair.into_disks();
@@ -109,8 +132,7 @@ fn a_commit_ends_a_doubtful_finish(rt: HostRuntime) -> Result<(), Fail> {
 
 #[test]
 fn a_copy_that_failed_is_given_up(rt: HostRuntime) -> Result<(), Fail> {
-    let mut pair = pair(rt.alloc())?;
-    assert_eq!(rt; pair.start_copy(1, 1), Ok(()));
+    let mut pair = begun(rt.alloc())?;
     pair.fail_once(Which::Second, 1);
     assert_eq!(rt;
         pair.put_base(&BASE),
