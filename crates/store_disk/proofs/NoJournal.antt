@@ -8,10 +8,10 @@ use Rattle.disk_pair.specs.declared.other.Other.TheVariants.{Idle}
 use Rattle.store_core.specs.Stored.{IsAt, IsServing, StoreTerm as Memory, alone, empty, served}
 use Rattle.store_machine.specs.History.{begun, snapshot}
 use Rattle.store_machine.specs.declared.machine.Status.{Status}
-use Rattle.store_disk.specs.OnDisk.{IsReady, StandsFor, on_pair}
+use Rattle.store_disk.specs.OnDisk.{IsReady, StandsFor}
 use Rattle.store_disk.proofs.Opened.{at-rest}
 
--- both disks keep nothing, and the journal stands at its first gate
+-- the two disks, and the journal at its first gate
 abbrev pub no_journal : Paired NoDisk
 no_journal = record {
   journal = record {
@@ -26,11 +26,12 @@ no_journal = record {
   second = false;
 }
 
-begins : (memory : Memory) (commits : ℕ) → IsAt memory (alone (served (empty commits))) → IsServing memory (empty commits)
+begins : (memory : Memory) (commits : ℕ) → IsAt memory (alone (served (empty commits)))
+    → IsServing memory (empty commits)
 begins memory commits at = at-rest memory (empty commits) commits 0 (record { a = 0; b = 0 }) at.stands
 
 no-states : 0 ≡ length (entries (snapshot begun 0))
-no-states = sym (sym (len-entries none) ∙ len-empty nat_cmp Status)
+no-states = sym (len-empty nat_cmp Status) ∙ len-entries none
 
 pub new-ready : (memory : Memory) (commits : ℕ) → IsAt memory (alone (served (empty commits)))
     → IsReady memory no_journal None
