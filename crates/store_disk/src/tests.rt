@@ -322,6 +322,7 @@ fn a_copy_that_fails_is_given_up(rt: HostRuntime) -> Result<(), Fail> {
     store.fail_once(1);
     assert_eq!(rt; store.compact(), fault);
     assert_eq!(rt; store.compact(), Ok(Compact::More { left: 2 }));
+    assert_eq!(rt; store.compact(), Ok(Compact::More { left: 0 }));
     store.fail_once(1);
     assert_eq!(rt; store.compact(), fault);
     assert_eq!(rt; store.compact(), Ok(Compact::More { left: 2 }));
