@@ -1,11 +1,11 @@
 //! Worked copies: the bytes, and what a crash leaves after a stop at each call.
 
-ghost use Rattle.std.specs.Prelude.{◌≡◌, IfOk};
+ghost use Rattle.std.specs.Prelude.{◌≡◌, IfOk, length};
 
 use crate::{Carry, CopyFault, FinishFault, shut};
 use disk_edge::{DiskFail, MemDisk};
 use journal_core::{Header, peek_header};
-use std::alloc::Global;
+use std::alloc::{AllocError, Global};
 use std::test::Fail;
 
 // Generation 1, version 5, and one base record.
@@ -38,6 +38,13 @@ fn copied(alloc: Global, disk: MemDisk) -> Result<Carry<MemDisk>, Fail>
         return Err(Fail::new("no commit"));
     }
     Ok(carry)
+}
+
+// A payload that gathers with another one in memory, and not with two.
+fn long(alloc: Global) -> Result<Vec<u8>, AllocError>
+    ensures { IfOk result (λ bytes. length bytes.items ≡ 30000) }
+{
+    vec![in alloc; 7; 30_000]
 }
 
 // A disk whose copy was finished with this many calls that pass, and whether the finish is in doubt.
@@ -77,7 +84,7 @@ fn a_copy_is_written_as_its_bytes(rt: HostRuntime) -> Result<(), Fail> {
 
 #[test]
 fn a_long_copy_is_written_whole(rt: HostRuntime) -> Result<(), Fail> {
-    let long = vec![in rt.alloc(); 7; 30_000]?;
+    let long = long(rt.alloc())?;
     let mut carry = copied(rt.alloc(), store(rt.alloc())?)?;
     carry.add(&long)?;
     carry.add(&long)?;
