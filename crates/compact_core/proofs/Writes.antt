@@ -47,10 +47,6 @@ pub told_torn : (at n : ℕ) (old new : Option (List ℕ)) (l : List ℕ) → ol
 told_torn at n None new l is t = cc is
 told_torn at n (Some m) new l is t = (t.0, t.1, subst (λ (x : List ℕ). Torn at n x t.0) (some_is m l is) t.2)
 
-pub untold_torn : (at n : ℕ) (old new : Option (List ℕ)) → TearsContent at n old new → old ≡ None → new ≡ None
-untold_torn at n None new t is = t
-untold_torn at n (Some m) new t is = cc is
-
 pub told_written : (old new : Option (List ℕ)) (f : List ℕ → List ℕ) (l : List ℕ) → old ≡ Some l → Becomes old new f
     → new ≡ Some (f l)
 told_written None new f l is b = cc is
