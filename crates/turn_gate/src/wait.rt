@@ -17,7 +17,7 @@ use std::{hint, thread};
 // How many tries are made one after another, and how many until the first sleep.
 const SPINS: u32 = 64;
 
-const YIELDS: u32 = 72;
+const YIELDS: u32 = 256;
 
 impl<V: Stands> Gate<V> {
     // Takes the holder word, and waits for it while another pass has it.
