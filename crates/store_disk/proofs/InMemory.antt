@@ -77,7 +77,11 @@ beside-still f second g finish copy (Copy carry) h =
           copies = λ l is. let k = c.copies l is in record {
             gate = k.gate;
             shut = k.shut;
-            stands = k.stands;
+            gathered = record {
+              written = k.gathered.written;
+              stands = k.gathered.stands;
+              is = k.gathered.is;
+            };
             place = k.place;
             bases = k.bases;
             fit = k.fit;
