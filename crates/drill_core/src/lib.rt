@@ -6,8 +6,6 @@
 #![tactic(auto)]
 
 mod laws;
-#[cfg(test)]
-mod tests;
 mod world;
 
 pub use laws::{disk_faults_are_counted, drills_are_runs};

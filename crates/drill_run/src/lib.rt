@@ -9,8 +9,6 @@ mod line;
 mod numbers;
 mod run;
 mod sessions;
-#[cfg(test)]
-mod tests;
 
 pub use laws::{drills_are_true, reopenings_keep_commits};
 pub use line::{LAST_IMAGE, MOST_CALLS, SESSIONS};

@@ -89,8 +89,8 @@ module _ {D : Type 0} (model : DiskModel D) (asks : AsksNoOwner model) (a b : St
 -- such a call adds its step
 adds-one : {D : Type 0} (model : DiskModel D) (old new : Kept D) (calls : TheCalls) → OwnersAreFree
     → AsksNoOwner model → (p : Event × Reply) → calls ≡ p ∷ [] → told_of new ≡ calls
-    → ((s : State) → StandsFor model old.store s
-    → Calls (Stretches model) (λ _. true) old.store new.store s calls)
+    → ((s : State) → StandsFor model old.store.value s
+    → Calls (Stretches model) (λ _. true) old.store.value new.store.value s calls)
     → Adds model old new
 adds-one model old new calls free asks p one told call o h n kept may =
     let s : State = after o.state h in
@@ -98,31 +98,36 @@ adds-one model old new calls free asks p one told call o h n kept may =
     let only = one-step made.steps p made.stands.calm (made.own ∙ one) in
     let x : Step = only.0 in
     let tells : told_of new ≡ call_of x ∷ [] = told ∙ (one ∙ ap (λ (c : Event × Reply). c ∷ []) (sym only.2)) in
-    let made-one : Stretches model old.store new.store s (x ∷ []) made.after =
-    subst (λ (l : List Step). Stretches model old.store new.store s l made.after) only.1 made.stands in
+    let made-one : Stretches model old.store.value new.store.value s (x ∷ []) made.after =
+    subst (λ (l : List Step). Stretches model old.store.value new.store.value s l made.after) only.1 made.stands in
     let asked : MayAsk x.before n x.event = subst (λ (u : State). MayAsk u n x.event) (sym made-one.run.0)
     (may x.event x.reply tells) in
     let again = reowned free x.before x.after x.owner n x.event x.reply asked made-one.run.1 in
     let y : Step = record x { owner = n; after = again.0 } in
-    let made-other = stretch-reowned model asks old.store new.store s made.after x n again.0 made-one again.1 again.2 in
-    let whole = joins model o.store old.store new.store o.state s again.0 h (y ∷ []) kept.stands made-other in (
+    let made-other =
+    stretch-reowned model asks old.store.value new.store.value s made.after x n again.0 made-one again.1 again.2 in
+    let whole =
+    joins model o.store old.store.value new.store.value o.state s again.0 h (y ∷ []) kept.stands made-other in (
       y,
       refl,
       tells,
       record {
         opened = kept.opened;
         given = λ e. absurd (one-more h y e);
-        stands = subst (λ (t : State). Stretches model o.store new.store o.state (h ++ y ∷ []) t)
+        stands = subst (λ (t : State). Stretches model o.store new.store.value o.state (h ++ y ∷ []) t)
             (sym (after-append h (y ∷ []) o.state)) whole;
       },
     )
 
--- and a store is never worn
+-- and a store is never worn, of which the call was made as it lay in its box
 pub adds : {D : Type 0} (model : DiskModel D) (old new : Kept D) (e : Event) (calls : TheCalls) (worn : Bool)
     → OwnersAreFree → AsksNoOwner model → IsCall e calls worn → WornAs ⊥ ⊥ worn → told_of new ≡ calls
-    → ((s : State) → StandsFor model old.store s
-    → Calls (Stretches model) (λ _. true) old.store new.store s calls)
+    → (before : StoreTerm D) → before ≡ old.store.value
+    → ((s : State) → StandsFor model before s
+    → Calls (Stretches model) (λ _. true) before new.store.value s calls)
     → Adds model old new
-adds model old new e calls worn free asks is never told call =
+adds {D} model old new e calls worn free asks is never told before same call =
     let one = one-event e calls worn is (false_from_ne_true worn never.1) in
-    adds-one model old new calls free asks (e, one.0) one.1 told call
+    adds-one model old new calls free asks (e, one.0) one.1 told
+    (subst (λ (store : StoreTerm D). (s : State) → StandsFor model store s
+    → Calls (Stretches model) (λ _. true) store new.store.value s calls) same call)

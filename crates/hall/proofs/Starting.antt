@@ -16,8 +16,8 @@ use Rattle.hall.specs.Passes.{Begins, Ends}
 
 module _ {D : Type 0} (model : DiskModel D) where
   -- a store stands for no event after each state as an opening leaves it that it is at
-  pub may-start : (store : StoreTerm D) (kept : Kept D) → kept.store ≡ store → (s : State) → StandsFor model store s
-      → (commits : ℕ) × IsOpened commits s → (o : Origin D) × KeptFor model o kept []
+  pub may-start : (store : StoreTerm D) (kept : Kept D) → kept.store.value ≡ store → (s : State)
+      → StandsFor model store s → (commits : ℕ) × IsOpened commits s → (o : Origin D) × KeptFor model o kept []
   may-start store kept e s stands opened = (
     record { store = store; state = s },
     record {
@@ -27,7 +27,7 @@ module _ {D : Type 0} (model : DiskModel D) where
     },
   )
 
-  pub begins : (store : StoreTerm D) (kept : Kept D) (p : HallPass D) → kept.store ≡ store
+  pub begins : (store : StoreTerm D) (kept : Kept D) (p : HallPass D) → kept.store.value ≡ store
       → gate.Begins (KeptFor model) kept (2 ^ 63) p.pass → Begins model store p
   begins store kept p e b =
       let is : b.origin.store ≡ store = sym (b.standing.given refl) ∙ e in
@@ -43,10 +43,10 @@ module _ {D : Type 0} (model : DiskModel D) where
         turns = ap (λ (k : Known (Kept D) Step (Origin D)). k.turns) b.is;
       }
 
-  pub ends : (p : HallPass D) (kept : Kept D) (store : StoreTerm D) → store ≡ kept.store
+  pub ends : (p : HallPass D) (kept : Kept D) (store : StoreTerm D) → store ≡ kept.store.value
       → gate.Ends (KeptFor model) p.pass kept → Ends model p store
   ends p kept store e c =
-      let whole : Ends model p kept.store = record {
+      let whole : Ends model p kept.store.value = record {
         origin = c.origin;
         of = c.of;
         opened = c.standing.opened;

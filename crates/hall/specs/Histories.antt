@@ -47,8 +47,8 @@ module _ {D : Type 0} where
 pub record KeptFor {D : Type 0} (model : DiskModel D) (origin : Origin D) (kept : Kept D) (history : List Step) : Type 0
   where
     pub opened : (commits : ℕ) × IsOpened commits origin.state
-    pub given : history ≡ [] → kept.store ≡ origin.store
-    pub stands : Stretches model origin.store kept.store origin.state history (after origin.state history)
+    pub given : history ≡ [] → kept.store.value ≡ origin.store
+    pub stands : Stretches model origin.store kept.store.value origin.state history (after origin.state history)
 
 -- Whose an event may be: a pin that it names is held by its owner.
 abbrev pub MayAsk : State → ℕ → Event → Type 0

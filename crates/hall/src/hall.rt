@@ -45,7 +45,11 @@ impl<D: Disk + Drop> Hall<D> {
         ensures runs { IfOk result (λ r. Runs r.1) }
         ensures back { IfErr result (λ e. e.1 ≡ store) }
     {
-        match Gate::start(alloc, Kept::new(store), TURNS) {
+        let kept = match Kept::new(alloc, store) {
+            Ok(kept) => kept,
+            Err(failed) => return Err((AllocError, failed.value)),
+        };
+        match Gate::start(alloc, kept, TURNS) {
             Ok((gate, pass)) => Ok((Hall { gate }, HallPass { pass })),
             Err((failed, kept)) => Err((failed, kept.into_store())),
         }

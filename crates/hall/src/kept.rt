@@ -1,5 +1,5 @@
 //! What is under the gate of a hall: the store, and the last call on it, which only contracts read.
-ghost use Rattle.std.specs.Prelude.{◌≡◌, ◌≤◌, ◌++◌, [], All, false, IfOk, length, List, OnErr, ℕ};
+ghost use Rattle.std.specs.Prelude.{◌≡◌, ◌≤◌, ◌++◌, [], All, false, IfErr, IfOk, length, List, OnErr, ℕ};
 ghost use Rattle.std.specs.Arc.{arc_value};
 ghost use Rattle.store_core.specs.Calls.{NeedsNone, is_compact_worn, is_worn, is_worn_out};
 ghost use Rattle.store_core.specs.Records.{Shared};
@@ -13,6 +13,7 @@ use crate::laws::laws;
 use chem_core::Print;
 use disk_edge::Disk;
 use snap_registry::Pin;
+use std::alloc::{AllocFailed, Global};
 use std::snapshot::Snapshot;
 use std::sync::ledger::Ledger;
 use store_core::{
@@ -66,9 +67,9 @@ pub enum Told {
     },
 }
 
-/// The store, and its last call, which takes no bytes.
+/// The store, and its last call, which takes no bytes. The store is in a box, so that a turn moves a pointer.
 pub struct Kept<D: Disk> {
-    pub store: Store<D>,
+    pub store: Box<Store<D>>,
     pub told: Snapshot<Told>,
 }
 
@@ -89,23 +90,25 @@ impl<D: Disk> Stands for Kept<D> {
 // Each call adds one step to every history for which the store stands. It is told by the value, and may be of any
 // owner, but for a fetch and an unpin, which are of the owner of their pin.
 impl<D: Disk + Drop> Kept<D> {
-    // Before any call.
-    pub(crate) fn new(store: Store<D>) -> Kept<D>
-        ensures store { result.store ≡ store }
+    // Before any call. An error gives the store back.
+    pub(crate) fn new(alloc: Global, store: Store<D>) -> Result<Kept<D>, AllocFailed<Store<D>>>
+        ensures store { IfOk result (λ k. k.store.value ≡ store) }
+        ensures back { IfErr result (λ e. e.value ≡ store) }
     {
-        Kept {
+        let store = Box::new(alloc, store)?;
+        Ok(Kept {
             store,
             told: Snapshot::of(&Told::Nothing),
-        }
+        })
     }
 
     // The store alone.
     pub(crate) fn into_store(self) -> Store<D>
-        ensures { result ≡ self.store }
+        ensures { result ≡ self.store.value }
     {
         let Kept { store, told } = self;
         drop(told);
-        store
+        Box::into_inner(store)
     }
 
     pub(crate) fn commit(&mut self, change: Change) -> Result<u32, CommitFault>
@@ -146,7 +149,7 @@ impl<D: Disk + Drop> Kept<D> {
         page: &mut Page,
         steps: &mut Steps<L>,
     ) -> Result<bool, CallFault>
-        requires held { HoldsPin self.old.store.memory pin.now.slot pin.now.version }
+        requires held { HoldsPin self.old.store.value.memory pin.now.slot pin.now.version }
         requires some { 1 ≤ limit }
         requires few { limit ≤ MOST_RECORDS }
         requires room { limit ≤ page.old.room }
@@ -173,7 +176,7 @@ impl<D: Disk + Drop> Kept<D> {
     }
 
     pub(crate) fn unpin(&mut self, pin: Pin) -> Result<(), CallFault>
-        requires held { HoldsPin self.old.store.memory pin.slot pin.version }
+        requires held { HoldsPin self.old.store.value.memory pin.slot pin.version }
         ensures adds { Adds D.model self.old self.new }
         ensures told { told_of self.new ≡ unpin_calls pin.slot result }
         ensures not_worn { is_worn result ≡ false }

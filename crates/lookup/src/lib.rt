@@ -18,6 +18,3 @@ pub use law::{
 pub use par_search::SearchFault;
 pub use same::{SameList, find_same};
 pub use similar::{SimilarList, find_similar};
-
-#[cfg(test)]
-mod tests;

@@ -156,18 +156,19 @@ impl Block {
         count
     }
 
-    /// The least pair from a place on whose print holds what is wanted. The hint is the index at which the pairs from
-    /// the place on may begin, and then the one behind the answer.
+    /// The least pair from a place on whose print holds what is wanted. Where nothing is wanted no print is read. The hint
+    /// is the index at which the pairs from the place on may begin, and then the one behind the answer.
     pub fn next(&self, want: &Print, from: (u32, u32), hint: &mut usize) -> Option<(u32, u32)>
         requires { Ascend 0 self.now }
         ensures { IsNext want.now (rank from.0 from.1) self.now result }
     {
-        if !self.union.holds(want) {
+        let is_any = Print::empty().holds(want);
+        if !is_any && !self.union.holds(want) {
             return None;
         }
         for place in self.count_near(from, *hint)..self.entries.len() {
             let entry = &self.entries[place];
-            if entry.print.holds(want) {
+            if is_any || entry.print.holds(want) {
                 *hint = place + 1;
                 return Some((entry.id, entry.version));
             }

@@ -10,6 +10,3 @@ mod records;
 
 pub use items::{is_record_end, item};
 pub use records::read_records;
-
-#[cfg(test)]
-mod tests;

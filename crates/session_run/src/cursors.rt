@@ -16,12 +16,12 @@ ghost use Rattle.session_run.specs.Walks.{CursorAnswer, EndsPage, cursor_of, cur
 
 use crate::listing::{Shown, Walk};
 use crate::say::{say, say_given};
-use crate::search::{begin, fault_line, give_back, list, refuse_pattern};
+use crate::search::{begin, fault_line, give_back, list, pages_together, refuse_pattern};
 use crate::settings::Settings;
 use crate::stop::Stop;
 use crate::texts::read_pattern;
 use indexmap::IndexMap;
-use par_search::{MOST_PAGES, Meter, SearchFault};
+use par_search::{Meter, SearchFault};
 use shell_lang::{Refusal, Reply, reply_text};
 use std::alloc::{AllocError, Global};
 use std::thread::Threads;
@@ -73,7 +73,8 @@ impl Cursors {
             Ok(pattern) => pattern,
             Err(fault) => return say(&refuse_pattern(fault), out),
         };
-        match begin(self.alloc, service, &self.settings, pattern, MOST_PAGES) {
+        let most = pages_together(&self.settings);
+        match begin(self.alloc, service, &self.settings, pattern, most) {
             Ok(walk) => list(rt, service, meter, walk, out),
             Err(fault) => say_given(fault_line(fault), out),
         }

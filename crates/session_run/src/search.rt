@@ -12,7 +12,7 @@ use crate::listing::Walk;
 use crate::say::say;
 use crate::settings::Settings;
 use crate::stop::Stop;
-use par_search::{Meter, Search, SearchFault};
+use par_search::{MOST_PAGES, Meter, Search, SearchFault};
 use shell_lang::{Refusal, Reply};
 use smarts_parse::{Pattern, SmartsFault};
 use std::alloc::Global;
@@ -52,6 +52,15 @@ pub fn begin<S: Service>(
         }),
         Err(fault) => Err(fault),
     }
+}
+
+/// How many pages are searched together: as many as may be where workers share them. One worker searches each page right
+/// behind its fetch, while its records are near.
+pub fn pages_together(settings: &Settings) -> u32
+    ensures some { 1 ≤ result }
+    ensures few { result ≤ MOST_PAGES }
+{
+    if settings.workers > 1 { MOST_PAGES } else { 1 }
 }
 
 /// The line where no search began.

@@ -481,6 +481,3 @@ fn split_at_space(bytes: &[u8]) -> Option<(&[u8], &[u8])>
     let place = bytes.iter().position(|byte| *byte == b' ')?;
     Some((&bytes[..place], &bytes[place + 1..]))
 }
-
-#[cfg(test)]
-mod tests;

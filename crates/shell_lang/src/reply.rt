@@ -498,6 +498,3 @@ fn push_number(out: &mut Vec<u8>, word: &str, number: u32) -> Result<(), AllocEr
     out.extend_from_slice(word.as_bytes())?;
     push_decimal(out, u64::from(number))
 }
-
-#[cfg(test)]
-mod tests;

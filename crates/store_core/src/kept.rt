@@ -23,6 +23,9 @@ pub type EntryFinder<'a> = Finder<'a, Option<Arc<Record>>>;
 // Places of entries that have left the chains, in ascending order.
 type Gone = ArrayVec<(u32, u32), 256>;
 
+// Records that are let go at once.
+type Leaving = ArrayVec<Option<Arc<Record>>, 32>;
+
 /// Entries by identifier and version, each with the record that its commit left, if it left one. Contracts see the
 /// entries, and the print for which memory was taken.
 #[derive(Drop)]
@@ -181,25 +184,42 @@ fn prune(chains: &mut Chains<Option<Arc<Record>>>, index: &mut ScreenIndex, live
     ensures fewer { length (entries chains.new) ≤ length (entries chains.old) }
 {
     let mut gone = Gone::new();
+    let mut leaving = Leaving::new();
     let mut from = (0, 0);
     while let Some((id, version)) = chains.dead_from(from, live) {
-        take(chains, id, version);
+        let_go(&mut leaving, take(chains, id, version));
         from = place(id, version);
         leave(index, &mut gone, from);
     }
     index.drop_all(gone.as_slice());
 }
 
-// Takes an entry out of the chains.
-fn take(chains: &mut Chains<Option<Arc<Record>>>, id: u32, version: u32)
+// Takes an entry out of the chains, and gives its record.
+fn take(chains: &mut Chains<Option<Arc<Record>>>, id: u32, version: u32) -> Option<Arc<Record>>
     requires { HasEntry chains.old (record { id = id; version = version }) }
     ensures chains { (q : ℕ) → chain_of chains.new q
         ≡ (if q == id then filter (is_other version) (chain_of chains.old id) else chain_of chains.old q) }
     ensures fewer { length (entries chains.new) + 1 ≡ length (entries chains.old) }
 {
-    let Some(_entry) = chains.take(id, version) else {
+    let Some(entry) = chains.take(id, version) else {
         unreachable!()
     };
+    entry
+}
+
+// Lets a record go, at once with others, how often each of which is shared is read first, as for a page.
+fn let_go(leaving: &mut Leaving, entry: Option<Arc<Record>>) {
+    if !leaving.is_full() {
+        leaving.push(entry);
+        return;
+    }
+    for left in leaving.iter() {
+        if let Some(record) = left {
+            let _count = Arc::strong_count(record);
+        }
+    }
+    leaving.clear();
+    leaving.push(entry);
 }
 
 // Of an entry: its identifier and version.

@@ -12,9 +12,14 @@ use bumpalo::Bump;
 use chem_core::{Mol, Print};
 use mol_finish::{Format, TextFault, structure_in};
 use path_print::print;
+use smallvec::SmallVec;
 use std::alloc::Global;
 use std::marker::Model;
 use std::sync::Arc;
+
+// How long a text may be to lie in the record, without a block of memory of its own: most SMILES texts of drug-like
+// structures are no longer.
+const SHORT: usize = 64;
 
 /// A text that has a structure, under an identifier of 1 to 999,999,999. It is shared, never copied.
 #[derive(Drop)]
@@ -23,7 +28,7 @@ pub struct Record {
     format: Format,
     // how many bits are set in the print
     bits: u16,
-    text: Vec<u8>,
+    text: SmallVec<u8, SHORT>,
     mol: Mol,
     print: Print,
 }
@@ -128,7 +133,7 @@ impl Recorder {
         let made = structure_in(self.alloc, &self.arena, format, text);
         self.free();
         let mol = made?;
-        let text = Vec::from_slice(self.alloc, text)?;
+        let text = SmallVec::from_slice(self.alloc, text)?;
         let print = print_of(&mol);
         let record = Record {
             id,

@@ -1,5 +1,4 @@
-//! Records that wait to be shared with a page. One is shared right behind another, so that the counts of several are
-//! read from memory at once.
+//! Records that wait to be shared with a page. The counts of several are read from memory at once, before any is raised.
 ghost use Rattle.std.specs.Prelude.{◌≡◌, ◌+◌, ◌++◌, ◌<◌, ◌≤◌, [], ◌∷◌, OnErr, OnOk, length};
 ghost use Rattle.store_core.specs.Waiting.{HasFirst, values};
 
@@ -74,11 +73,22 @@ impl<'a> Waiting<'a> {
         ensures first { HasFirst page.new.records (page.old.records ++ self.now) }
         ensures room { page.new.room ≡ page.old.room }
     {
+        self.read_counts();
         for waiting in self.records.iter() {
             if let Some(record) = waiting {
                 page.push(Arc::try_clone(*record)?);
             }
         }
         Ok(())
+    }
+
+    // Reads how often each is shared. Reads wait for memory side by side, and raising a count that was read waits for
+    // none; raised without it, each count would wait for the one before.
+    fn read_counts(&self) {
+        for waiting in self.records.iter() {
+            if let Some(record) = waiting {
+                let _count = Arc::strong_count(*record);
+            }
+        }
     }
 }

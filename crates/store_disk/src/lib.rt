@@ -20,8 +20,6 @@ mod laws;
 mod payload;
 mod replay;
 mod store;
-#[cfg(test)]
-mod tests;
 
 pub use disks::Disks;
 pub use laws::{

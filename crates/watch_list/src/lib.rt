@@ -10,6 +10,3 @@ mod hits;
 mod list;
 
 pub use list::{MOST_WATCHES, Watches};
-
-#[cfg(test)]
-mod tests;

@@ -17,8 +17,8 @@ fetch-answer-requires-clause-held g c =
     let sees = c.in-Ok.ensures.sees in
     let held = held-at _ c.laws.ensures.stay c.args.pass.now _ _ c.args.pin.now.slot c.args.pin.now.version sees
     c.requires.held in
-    subst (λ v. HoldsPin v.store.memory c.args.pin.now.slot c.args.pin.now.version) (sym c.value.ensures.value)
-    (store-holds _ c.in-Ok.turn.value.store _ c.args.pin.now.slot c.requires.held.owner c.args.pin.now.version
+    subst (λ v. HoldsPin v.store.value.memory c.args.pin.now.slot c.args.pin.now.version) (sym c.value.ensures.value)
+    (store-holds _ c.in-Ok.turn.value.store.value _ c.args.pin.now.slot c.requires.held.owner c.args.pin.now.version
     sees.standing.stands.ends held)
 
 pub end-requires-clause-names : goal.end-requires-clause-names

@@ -6,13 +6,15 @@ use Rattle.hall.proofs.hall.Hall.start.Goals as goal
 pub start-requires-clause-stands : goal.start-requires-clause-stands
 start-requires-clause-stands g c =
     let at = c.requires.stands in
-    may-start _ c.args.store c.new.result c.new.ensures.store at.0 at.1 at.2
+    may-start _ c.args.store c.in-Ok.kept c.in-Ok.ensures.store at.0 at.1 at.2
 
-pub returns-in-Ok-clause-begins : goal.returns-in-Ok-clause-begins
-returns-in-Ok-clause-begins g c =
-    begins _ c.args.store c.new.result (record { pass = c.in-Ok.pass }) c.new.ensures.store c.in-Ok.ensures.begins
+pub returns-in-Ok-start-clause-begins : goal.returns-in-Ok-start-clause-begins
+returns-in-Ok-start-clause-begins g c =
+    begins _ c.args.store c.in-Ok.kept (record { pass = c.in-Ok-start.pass }) c.in-Ok.ensures.store
+    c.in-Ok-start.ensures.begins
 
-pub returns-in-Ok-clause-runs : goal.returns-in-Ok-clause-runs
-returns-in-Ok-clause-runs g c =
-    runs-first _ c.args.store (record { pass = c.in-Ok.pass })
-    (begins _ c.args.store c.new.result (record { pass = c.in-Ok.pass }) c.new.ensures.store c.in-Ok.ensures.begins)
+pub returns-in-Ok-start-clause-runs : goal.returns-in-Ok-start-clause-runs
+returns-in-Ok-start-clause-runs g c =
+    runs-first _ c.args.store (record { pass = c.in-Ok-start.pass })
+    (begins _ c.args.store c.in-Ok.kept (record { pass = c.in-Ok-start.pass }) c.in-Ok.ensures.store
+    c.in-Ok-start.ensures.begins)

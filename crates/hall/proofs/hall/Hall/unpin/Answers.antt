@@ -18,8 +18,8 @@ unpin-answer-requires g c =
     let held = held-at _ c.laws.ensures.stay c.args.pass.now _ _ c.args.pin.slot c.args.pin.version sees
     c.requires.held in
     record {
-      held = subst (λ v. HoldsPin v.store.memory c.args.pin.slot c.args.pin.version) (sym c.value.ensures.value)
-          (store-holds _ c.in-Ok.turn.value.store _ c.args.pin.slot c.requires.held.owner c.args.pin.version
+      held = subst (λ v. HoldsPin v.store.value.memory c.args.pin.slot c.args.pin.version) (sym c.value.ensures.value)
+          (store-holds _ c.in-Ok.turn.value.store.value _ c.args.pin.slot c.requires.held.owner c.args.pin.version
           sees.standing.stands.ends held);
     }
 

@@ -13,4 +13,4 @@ returns-clause-adds g c =
     (commit-call c.args.change c.commit-answer.result) c.commit-answer.ensures.worn
     (ap calls_told c.of-2.ensures ∙ (ap (λ x. commit_calls x c.of.result.value) c.of-asked.ensures
     ∙ ap (commit_calls c.args.change) c.of.ensures))
-    c.commit-answer.ensures.call
+    _ c.deref_mut.ensures.value c.commit-answer.ensures.call

@@ -12,4 +12,4 @@ returns-clause-adds g c =
     adds _ _ _ Compact _ _ c.laws.ensures.free c.laws.ensures.asks
     (compact-call c.compact-answer.result) c.compact-answer.ensures.worn
     (ap calls_told c.of-2.ensures ∙ ap compact_calls c.of.ensures)
-    c.compact-answer.ensures.call
+    _ c.deref_mut.ensures.value c.compact-answer.ensures.call

@@ -20,4 +20,4 @@ returns-clause-adds g c =
     c.of-3.result.value) c.of-2.ensures
     ∙ ap (fetch_calls c.args.pin.now.slot c.args.want.now c.args.from c.args.limit c.fetch-answer.new.page.records)
     c.of-3.ensures)))
-    c.fetch-answer.ensures.call
+    _ c.deref_mut.ensures.value c.fetch-answer.ensures.call

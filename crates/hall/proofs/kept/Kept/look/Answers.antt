@@ -12,4 +12,4 @@ returns-clause-adds g c =
     adds _ _ _ (Look c.args.id) _ _ c.laws.ensures.free c.laws.ensures.asks
     (other-call (Look c.args.id) _ c.look-answer.result) c.look-answer.ensures.worn
     (ap calls_told c.of-2.ensures ∙ ap (look_calls c.args.id) c.of.ensures)
-    c.look-answer.ensures.call
+    _ c.deref_mut.ensures.value c.look-answer.ensures.call

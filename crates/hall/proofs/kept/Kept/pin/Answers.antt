@@ -12,4 +12,4 @@ returns-clause-adds g c =
     adds _ _ _ Pin _ _ c.laws.ensures.free c.laws.ensures.asks
     (other-call Pin _ c.pin-answer.result) c.pin-answer.ensures.worn
     (ap calls_told c.of-2.ensures ∙ ap pin_calls c.of.ensures)
-    c.pin-answer.ensures.call
+    _ c.deref_mut.ensures.value c.pin-answer.ensures.call

@@ -12,4 +12,4 @@ returns-clause-adds g c =
     adds _ _ _ Prune _ _ c.laws.ensures.free c.laws.ensures.asks
     (other-call Prune _ c.prune-answer.result) c.prune-answer.ensures.worn
     (ap calls_told c.of-2.ensures ∙ ap prune_calls c.of.ensures)
-    c.prune-answer.ensures.call
+    _ c.deref_mut.ensures.value c.prune-answer.ensures.call

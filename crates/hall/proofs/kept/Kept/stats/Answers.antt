@@ -12,4 +12,4 @@ returns-clause-adds g c =
     adds _ _ _ Stats _ _ c.laws.ensures.free c.laws.ensures.asks
     (other-call Stats _ c.stats-answer.result) c.stats-answer.ensures.worn
     (ap calls_told c.of-2.ensures ∙ ap stats_calls c.of.ensures)
-    c.stats-answer.ensures.call
+    _ c.deref_mut.ensures.value c.stats-answer.ensures.call

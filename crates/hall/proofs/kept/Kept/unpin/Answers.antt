@@ -12,4 +12,4 @@ returns-clause-adds g c =
     adds _ _ _ (Unpin c.args.pin.slot) _ _ c.laws.ensures.free c.laws.ensures.asks
     (other-call (Unpin c.args.pin.slot) _ c.unpin-answer.result) c.unpin-answer.ensures.worn
     (ap calls_told c.of-2.ensures ∙ ap (unpin_calls c.args.pin.slot) c.of.ensures)
-    c.unpin-answer.ensures.call
+    _ c.deref_mut.ensures.value c.unpin-answer.ensures.call

@@ -15,7 +15,7 @@ pub invariant_of-record : goal.invariant_of-record
 invariant_of-record c = (
   record {
     id = c.requires;
-    structure = rw c.in_ok-text.ensures.items (has_molecule c.args.format c.args.text.now c.in_ok-mol.mol
+    structure = rw c.in_ok-text.ensures.ok (has_molecule c.args.format c.args.text.now c.in_ok-mol.mol
         c.in_ok-mol.ensures);
     molecule = c.print_of-print.ensures.molecule;
     print = c.print_of-print.ensures.print;

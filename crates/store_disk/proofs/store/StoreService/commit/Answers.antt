@@ -86,3 +86,8 @@ invariant_of-self-2 g c =
     (λ s h. let stands = c.prepare.ensures.stands (served s) h in
     (c.in_ok-prepare.ensures.prepared.may_add s stands, c.make.ensures.committed s stands))
     (omega (arith, c.make.ensures.version, c.prepare.ensures.version)) c.make.ensures.few c.self.invariant
+
+pub returns-clause-held : goal.returns-clause-held
+returns-clause-held g c =
+    let same = c.make.ensures.pins ∙ c.prepare.ensures.pins in
+    rw (sym c.self.view_is, same) (λ slot version. (λ h. h, λ h. h))

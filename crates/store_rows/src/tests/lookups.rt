@@ -2,7 +2,7 @@
 ghost use Rattle.std.specs.Prelude.{◌≤◌};
 ghost use Rattle.store_machine.specs.History.{IsId};
 
-use crate::{SearchFault, find_same, find_similar};
+use lookup::{SearchFault, find_same, find_similar};
 use mol_finish::Format;
 use std::alloc::Global;
 use std::test::Fail;

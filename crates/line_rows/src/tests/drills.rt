@@ -1,7 +1,7 @@
 //! Worked drills.
 
-use crate::drill;
 use drill_core::World;
+use drill_run::drill;
 use io_edge::{MemSink, MemSource};
 use par_search::NoMeter;
 use session_run::{EndStatus, Settings};

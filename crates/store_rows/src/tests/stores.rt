@@ -1,13 +1,13 @@
 //! A store is made, stopped or failed at each call of its disk, and loaded again; and files that are damaged, on one
 //! disk and on two.
 
-use crate::{Disks, Store};
 use disk_edge::{Disk, MemDisk};
 use journal_core::LoadFault;
 use mol_finish::Format;
 use std::alloc::Global;
 use std::test::Fail;
 use store_core::{Change, CommitFault, Compact, CompactFault, Look, Record, Service};
+use store_disk::{Disks, Store};
 
 // Registers a SMILES under an identifier.
 fn register<D: Disk + Drop>(

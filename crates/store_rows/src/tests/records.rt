@@ -1,7 +1,7 @@
 //! Texts of records with their items, and texts with the records that are made of them.
-use crate::{is_record_end, item, read_records};
 use mol_finish::{Format, TextFault};
 use molfile_read::MolfileFault;
+use sd_read::{is_record_end, item, read_records};
 use std::alloc::{AllocError, Global};
 use std::sync::Arc;
 use std::test::Fail;

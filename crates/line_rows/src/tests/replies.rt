@@ -1,6 +1,8 @@
 //! Replies and their lines.
-use super::*;
+use mol_finish::Format;
+use shell_lang::{Refusal, Reply, data_text, reply_text};
 use std::test::Fail;
+use store_core::{Record, Stats};
 
 // Methane; the last line has no LF.
 const METHANE: &str = "methane

@@ -1,10 +1,10 @@
 //! Two watches over a row of one's own commits, and one that missed a commit.
-use crate::Watches;
 use mol_finish::Format;
 use smarts_parse::parse;
 use std::alloc::Global;
 use std::test::Fail;
 use store_core::{Change, Record};
+use watch_list::Watches;
 
 // One's own commit of a version: an identifier from 1 to 9 gets a text, or none any more.
 fn commit(

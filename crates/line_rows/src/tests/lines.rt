@@ -1,7 +1,5 @@
 //! Lines and what they are read as.
-use super::*;
-
-const NAME: &[u8] = b"Abcdefghijklmnopqrstuvwxyz_01234";
+use shell_lang::{Command, LineRefusal, MolfileChange, TakenLines, read_command, taken_lines};
 
 #[test]
 fn lines_are_read_by_their_parts(rt: HostRuntime) {
@@ -291,6 +289,4 @@ fn parts_are_given(rt: HostRuntime) {
             })
         )
     );
-    assert!(rt; is_name(NAME) && NAME.len() == 32);
-    assert!(rt; !is_name(b"Abcdefghijklmnopqrstuvwxyz_012345"));
 }

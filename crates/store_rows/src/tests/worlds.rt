@@ -1,6 +1,6 @@
 //! A world is stopped or failed at each call of a commit, and opened again at images of its disks.
 
-use crate::World;
+use drill_core::World;
 use mol_finish::Format;
 use std::alloc::Global;
 use std::test::Fail;

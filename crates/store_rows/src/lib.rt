@@ -1,0 +1,5 @@
+//! Worked tables of stores: on disks, through crashes, under lookups and watches; and of records of SD files.
+#![tactic(auto)]
+
+#[cfg(test)]
+mod tests;

@@ -1,0 +1,7 @@
+//! The tables, a file for each part.
+
+mod lookups;
+mod records;
+mod stores;
+mod watches;
+mod worlds;
