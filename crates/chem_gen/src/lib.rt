@@ -8,6 +8,3 @@ mod summarize;
 
 pub use generate::script;
 pub use summarize::summary;
-
-#[cfg(test)]
-mod tests;

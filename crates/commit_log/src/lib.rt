@@ -10,8 +10,6 @@ mod change;
 mod laws;
 mod log;
 mod reading;
-#[cfg(test)]
-mod tests;
 mod writing;
 
 pub use base::{BaseEntry, BaseState};

@@ -9,8 +9,6 @@ mod carry;
 mod closing;
 mod extend;
 mod gather;
-#[cfg(test)]
-mod tests;
 
 pub use carry::{Carry, CopyFault, FinishFault};
 pub use closing::shut;

@@ -14,8 +14,6 @@ mod opening;
 mod other;
 mod pair;
 mod put;
-#[cfg(test)]
-mod tests;
 
 pub use choice::Which;
 pub use fault::PutFault;

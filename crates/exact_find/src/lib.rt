@@ -17,6 +17,3 @@ mod walk;
 pub use key::{Key, key_of};
 pub use law::{same_have_equal_keys, same_is_reflexive, same_is_symmetric, same_is_transitive};
 pub use walk::{SameScratch, same};
-
-#[cfg(test)]
-mod tests;

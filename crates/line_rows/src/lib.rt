@@ -1,4 +1,4 @@
-//! Worked tables of lines: as they are read, as they are written, and in drills.
+//! Worked tables of lines: as they are read, as they are written, as they are generated, and in drills.
 #![tactic(auto)]
 
 #[cfg(test)]

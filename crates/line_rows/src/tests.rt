@@ -1,5 +1,6 @@
 //! The tables, a file for each part.
 
 mod drills;
+mod generated;
 mod lines;
 mod replies;

@@ -27,6 +27,3 @@ pub use pieces::match_pieces;
 pub use room::PageHits;
 pub use search::Search;
 pub use worker::Worker;
-
-#[cfg(test)]
-mod tests;

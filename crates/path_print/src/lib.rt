@@ -17,6 +17,3 @@ mod text;
 pub use law::{implied_is_so, path_bit_is_set, path_is_carried, screen_law};
 pub use molecule::print;
 pub use pattern::need;
-
-#[cfg(test)]
-mod tests;

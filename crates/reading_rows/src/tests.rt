@@ -2,4 +2,8 @@
 
 mod molfiles;
 mod patterns;
+mod primitives;
+mod prints;
 mod rings;
+mod same;
+mod similar;

@@ -9,6 +9,3 @@ mod shared;
 
 pub use best::{Best, MOST_HITS};
 pub use shared::{most_alike, score};
-
-#[cfg(test)]
-mod tests;

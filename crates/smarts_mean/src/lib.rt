@@ -12,6 +12,3 @@ mod table;
 pub use atom::{atom_true, prim_true};
 pub use bond::bond_true;
 pub use table::{MOST_PARTS, RecTable};
-
-#[cfg(test)]
-mod tests;

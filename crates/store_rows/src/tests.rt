@@ -2,6 +2,7 @@
 
 mod lookups;
 mod records;
+mod searches;
 mod stores;
 mod watches;
 mod worlds;

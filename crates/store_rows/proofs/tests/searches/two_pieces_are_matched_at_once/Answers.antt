@@ -1,5 +1,5 @@
 use Rattle.std.proofs.Common.{inr, refl}
-use Rattle.par_search.proofs.tests.two_pieces_are_matched_at_once.Goals as goal
+use Rattle.store_rows.proofs.tests.searches.two_pieces_are_matched_at_once.Goals as goal
 
 pub is_next-requires-after_bounds : goal.is_next-requires-after_bounds
 is_next-requires-after_bounds g c κs =

@@ -1,6 +1,6 @@
 //! Worked payloads, logs and bases.
 
-use crate::{
+use commit_log::{
     BaseEntry, BaseState, Commit, Format, Wire, decode, decode_base, encode, encode_base, read_all,
     read_base,
 };

@@ -3,11 +3,8 @@
 ghost use Rattle.std.specs.Prelude.{◌≡◌, ◌<◌, ◌^◌, IfOk, None, length};
 ghost use Rattle.disk_pair.specs.Term.{HasRoom, IsBased, LacksBase, progress_of};
 
-use crate::choice::Which;
-use crate::fault::PutFault;
-use crate::opening::{Picked, load};
-use crate::pair::Pair;
 use disk_edge::MemDisk;
+use disk_pair::{Pair, Picked, PutFault, Which, load};
 use journal_core::{Header, Journal};
 use std::alloc::{AllocError, Global};
 use std::test::Fail;

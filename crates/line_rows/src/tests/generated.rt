@@ -1,6 +1,6 @@
 //! Seeds with their scripts and summaries, by hand.
 
-use crate::{script, summary};
+use chem_gen::{script, summary};
 use std::test::Fail;
 
 #[test]

@@ -1,6 +1,6 @@
 //! Hits by hand: a fraction that does not pass, a tie, a cut, and what may be left out.
-use crate::{Best, most_alike, score};
 use chem_core::Print;
+use similar_find::{Best, most_alike, score};
 use std::test::Fail;
 
 // Identifiers with bits in both prints and in at least one.

@@ -1,5 +1,5 @@
 use Rattle.std.proofs.Common.{inr, refl}
-use Rattle.par_search.proofs.tests.three_records_come_by_pages_of_two.Goals as goal
+use Rattle.store_rows.proofs.tests.searches.three_records_come_by_pages_of_two.Goals as goal
 
 pub is_next-requires-after_bounds : goal.is_next-requires-after_bounds
 is_next-requires-after_bounds g c κs =

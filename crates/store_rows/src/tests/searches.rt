@@ -2,9 +2,9 @@
 ghost use Rattle.store_machine.specs.History.{IsId};
 ghost use Rattle.store_core.specs.Stored.{HoldsPin};
 
-use crate::{Meter, NoMeter, Search};
 use matcher::{Scratch, first};
 use mol_finish::Format;
+use par_search::{Meter, NoMeter, Search};
 use smarts_parse::parse;
 use std::alloc::{AllocError, Global};
 use std::sync::atomic::{AtomicU32, Ordering};

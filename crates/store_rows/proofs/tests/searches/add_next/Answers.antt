@@ -1,7 +1,7 @@
 use Rattle.std.proofs.Common.{subst, sym}
 use Rattle.store_core.specs.Stored.{HoldsPin}
 use Rattle.par_search.specs.Searches.{SearchTerm}
-use Rattle.par_search.proofs.tests.add_next.Goals as goal
+use Rattle.store_rows.proofs.tests.searches.add_next.Goals as goal
 
 pub returns-then-is_some : goal.returns-then-is_some
 returns-then-is_some g c =

@@ -1,7 +1,7 @@
 use Rattle.std.proofs.Common.{subst, sym}
 use Rattle.store_core.specs.Stored.{HoldsPin}
 use Rattle.par_search.specs.Searches.{SearchTerm}
-use Rattle.par_search.proofs.tests.is_next.Goals as goal
+use Rattle.store_rows.proofs.tests.searches.is_next.Goals as goal
 
 pub returns-then-page-tried : goal.returns-then-page-tried
 returns-then-page-tried g c =

@@ -1,5 +1,5 @@
 use Rattle.std.proofs.Common.{inr, refl}
-use Rattle.par_search.proofs.tests.batches_have_the_hits_of_their_pages.Goals as goal
+use Rattle.store_rows.proofs.tests.searches.batches_have_the_hits_of_their_pages.Goals as goal
 
 pub loop-step-init : goal.loop-step-init
 loop-step-init g c =

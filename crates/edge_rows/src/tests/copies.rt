@@ -2,7 +2,7 @@
 
 ghost use Rattle.std.specs.Prelude.{◌≡◌, IfOk, length};
 
-use crate::{Carry, CopyFault, FinishFault, shut};
+use compact_core::{Carry, CopyFault, FinishFault, shut};
 use disk_edge::{DiskFail, MemDisk};
 use journal_core::{Header, peek_header};
 use std::alloc::{AllocError, Global};

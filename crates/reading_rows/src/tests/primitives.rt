@@ -1,7 +1,7 @@
 //! Primitives at one atom.
 
-use crate::{RecTable, atom_true};
 use chem_core::{Atom, Mol};
+use smarts_mean::{RecTable, atom_true};
 use smarts_parse::{AtomPrim, Expr};
 use std::test::Fail;
 

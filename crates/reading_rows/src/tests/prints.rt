@@ -1,6 +1,6 @@
 //! Worked examples of one atom. Longer paths have no example here: `IsPrint` and `IsNeed` say what they set.
-use crate::{need, print};
 use chem_core::{Atom, Mol, Print};
+use path_print::{need, print};
 use smarts_parse::{AtomPrim, Expr, Graph, Pattern};
 use std::process::Abort;
 use std::test::Fail;

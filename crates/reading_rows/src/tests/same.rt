@@ -1,8 +1,8 @@
 //! One atom beside another.
 ghost use Rattle.std.specs.Prelude.{◌≤◌};
 
-use crate::{SameScratch, key_of, same};
 use chem_core::{Atom, Mol};
+use exact_find::{SameScratch, key_of, same};
 use std::alloc::{AllocError, Global};
 use std::test::Fail;
 
