@@ -137,6 +137,7 @@ module _ {S : Type 0} {of : meaning.Ghosts S} (slot size : ℕ) (want : List Boo
     records = w.records ∙ ap (λ n. founds_in (take n pages)) (sym w.count_is);
     tried = w.tried ∙ ap (λ n. length (records_in (take n pages))) (sym w.count_is);
     full = λ e n. w.number ∙ end n;
+    whole = λ e n. w.count_is ∙ end n;
     from = w.from;
     worn = λ e. absurd (no_fault f.fault w.fault e);
     held = w.held;
@@ -170,6 +171,7 @@ module _ {S : Type 0} {of : meaning.Ghosts S} (slot size : ℕ) (want : List Boo
             ∙ (w.records ∙ ap founds_in (sym taken));
         tried = t ∙ (w.tried ∙ ap (λ l. length (records_in l)) (sym taken));
         full = λ k. absurd (some_fault g.fault (fault_of call.Worn) k e);
+        whole = λ k. absurd (some_fault g.fault (fault_of call.Worn) k e);
         from = subst (λ (q : Option ℕ). IfSome q (λ n. n ≤ 1000000000)) (sym o) w.from;
         worn = λ k. worn refl;
         held = held-more (of.holds old) (of.holds now) (of.holds new) w.held held;
@@ -193,6 +195,7 @@ module _ {S : Type 0} {of : meaning.Ghosts S} (slot size : ℕ) (want : List Boo
         records = records_lost slot size from want w.calls ∙ (w.records ∙ ap founds_in (sym taken));
         tried = t ∙ (w.tried ∙ ap (λ l. length (records_in l)) (sym taken));
         full = λ k. absurd (some_fault g.fault (fault_of call.NoMemory) k e);
+        whole = λ k. absurd (some_fault g.fault (fault_of call.NoMemory) k e);
         from = subst (λ (q : Option ℕ). IfSome q (λ n. n ≤ 1000000000)) (sym o) w.from;
         worn = λ k. absurd (not_worn g.fault k e);
         held = held-more (of.holds old) (of.holds now) (of.holds new) w.held held;

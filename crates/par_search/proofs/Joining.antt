@@ -1,8 +1,9 @@
 -- The hits of shares, one behind the other.
-use Rattle.std.proofs.Common.{◌≡◌, ◌+◌, ◌*◌, ◌++◌, ◌≤◌, ◌∙◌, ap, append_assoc, arith, drop, length, List, [], ◌∷◌, refl, slice_get, Some, subst, suc, sym, take, zero, ℕ}
+use Rattle.std.proofs.Common.{◌≡◌, ◌+◌, ◌*◌, ◌++◌, ◌≤◌, ◌∙◌, ap, ap₂, append_assoc, arith, drop, length, List, [], ◌∷◌, refl, slice_get, Some, subst, suc, sym, take, zero, ℕ}
 use Rattle.std.proofs.Math.Seq.{take-add}
 use Rattle.std.proofs.lemmas.Grind.{flat_map-append}
 use Rattle.std.proofs.lemmas.List.{drop-drop, length-map, map-append}
+use Rattle.std.proofs.lemmas.Option.{same_Some}
 use Rattle.std.specs.Arc.{arc_value}
 use Rattle.std.specs.Int.{div_ceil}
 use Rattle.smarts_parse.specs.Pattern.{PatternTerm}
@@ -10,7 +11,7 @@ use Rattle.store_machine.specs.Answers.{AreMatched}
 use Rattle.store_machine.specs.declared.machine.Found.{Found}
 use Rattle.store_core.specs.Records.{PageTerm, Shared, found_of, founds}
 use Rattle.par_search.specs.Flags.{WorkerTerm, piece_of}
-use Rattle.par_search.specs.Shares.{AreFound, hits_in, records_in}
+use Rattle.par_search.specs.Shares.{AreFoundFrom, hits_in, records_in}
 use Rattle.par_search.proofs.Cuts.{all-taken, one-more}
 use Rattle.par_search.proofs.Matched.{matched-append, matched_few}
 
@@ -71,9 +72,19 @@ share-first n k size items =
     ∙ ap (λ l. take size (drop (k * size) items) ++ take (n * size) l)
     (drop-drop size (k * size) items ∙ ap (λ m. drop m items) (sym (one-more k size)))
 
+-- a share that is found, and those behind it
+pub found-first : (p : PatternTerm) (size number : ℕ) (records : List Shared) (w : WorkerTerm) (ws : List WorkerTerm)
+    → AreMatched p (founds (piece_of size number records)) w.hits → AreFoundFrom p size (number + 1) records ws
+    → AreFoundFrom p size number records (w ∷ ws)
+found-first p size number records w ws here behind zero v e =
+    subst (λ (x : WorkerTerm). AreMatched p (founds (piece_of size (number + 0) records)) x.hits) (same_Some w v e)
+    (subst (λ i. AreMatched p (founds (piece_of size i records)) w.hits) (omega arith) here)
+found-first p size number records w ws here behind (suc k) v e =
+    subst (λ i. AreMatched p (founds (piece_of size i records)) v.hits) (omega arith) (behind k v e)
+
 -- the hits of the shares from one on
 join-from : (p : PatternTerm) (size k : ℕ) (records : List Shared) (ws : List WorkerTerm)
-    → ((j : ℕ) (w : WorkerTerm) → slice_get ws j ≡ Some w → AreMatched p (founds (piece_of size (k + j) records)) w.hits)
+    → AreFoundFrom p size k records ws
     → AreMatched p (founds (take (length ws * size) (drop (k * size) records))) (hits_in ws)
 join-from p size k records [] h =
     let none : 0 ≡ 0 * size = omega arith in
@@ -93,16 +104,24 @@ join-from p size k records (w ∷ ws) h =
     (founds (take (length ws * size) (drop ((k + 1) * size) records))) w.hits (hits_in ws) here behind))
 
 -- all together are the hits of the records
-pub joined : (p : PatternTerm) (records : List Shared) (ws : List WorkerTerm) → AreFound p records ws → 1 ≤ length ws
+pub joined : (p : PatternTerm) (records : List Shared) (ws : List WorkerTerm)
+    → AreFoundFrom p (div_ceil (length records) (length ws)) 0 records ws → 1 ≤ length ws
     → AreMatched p (founds records) (hits_in ws)
 joined p records ws found some =
     let size = div_ceil (length records) (length ws) in
     let none : 0 * size ≡ 0 = omega arith in
-    let all = join-from p size 0 records ws
-    (λ j w e. subst (λ i. AreMatched p (founds (piece_of size i records)) w.hits) (omega arith) (found j w e)) in
     subst (λ l. AreMatched p (founds l) (hits_in ws))
     (ap (λ n. take (length ws * size) (drop n records)) none
-    ∙ all-taken (length ws) (length ws) size records some (omega arith) refl) all
+    ∙ all-taken (length ws) (length ws) size records some (omega arith) refl) (join-from p size 0 records ws found)
+
+-- the same of shares of so many records, one for each worker
+pub shares-joined : (p : PatternTerm) (n size : ℕ) (records : List Shared) (old new : List WorkerTerm)
+    → n ≡ length records → size ≡ div_ceil n (length old) → length new ≡ length old → 1 ≤ length old
+    → AreFoundFrom p size 0 records new → AreMatched p (founds records) (hits_in new)
+shares-joined p n size records old new total is same some found =
+    joined p records new
+    (subst (λ k. AreFoundFrom p k 0 records new) (is ∙ ap₂ (λ m l. div_ceil m l) total (sym same)) found)
+    (omega (arith, some, same))
 
 -- they are no more than the records
 pub joined-few : (p : PatternTerm) (records : List Shared) (hits : List ℕ) → AreMatched p (founds records) hits

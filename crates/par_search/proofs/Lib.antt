@@ -1,6 +1,7 @@
 pub mod Cuts
 pub mod Fetching
 pub mod Flagged
+pub mod Grouping
 pub mod Held
 pub mod Joined
 pub mod Joining

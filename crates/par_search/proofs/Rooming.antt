@@ -1,6 +1,6 @@
 -- Fetching and matching leave the room as it was.
-use Rattle.std.proofs.Common.{◌≡◌, ◌*◌, ◌<◌, ◌≤◌, ◌∙◌, All, ap, arith, get_or, length, List, [], ◌∷◌, map, set, subst, suc, sym, vec_capacity, zero, ℕ}
-use Rattle.std.proofs.lemmas.List.{get_or-map, length-map}
+use Rattle.std.proofs.Common.{◌≡◌, ◌*◌, ◌++◌, ◌<◌, ◌≤◌, ◌∙◌, All, ap, arith, get_or, length, List, [], ◌∷◌, map, set, subst, suc, sym, vec_capacity, zero, ℕ}
+use Rattle.std.proofs.lemmas.List.{get_or-map, length-map, map-append}
 use Rattle.std.specs.Int.{div_ceil}
 use Rattle.store_core.specs.Records.{PageTerm}
 use Rattle.par_search.specs.Flags.{WorkerTerm}
@@ -18,7 +18,7 @@ shares ws = map {B = ℕ} (λ w. w.share) ws
 abbrev pub page_rooms : List PageTerm → List ℕ
 page_rooms ps = map {B = ℕ} (λ p. p.room) ps
 
-same-length : {X : Type 0} (f : X → ℕ) (xs ys : List X) → map f ys ≡ map f xs → length ys ≡ length xs
+pub same-length : {X : Type 0} (f : X → ℕ) (xs ys : List X) → map f ys ≡ map f xs → length ys ≡ length xs
 same-length f xs ys e = sym (length-map ys f) ∙ ap (λ l. length l) e ∙ length-map xs f
 
 pub kept : {X : Type 0} (f : X → ℕ) (q : ℕ) (xs ys : List X) → map f ys ≡ map f xs → All (λ x. q ≤ f x) xs
@@ -89,3 +89,11 @@ kept-room old new h size page batch hits workers share =
             old.workers.items new.workers.items share h.shares));
       };
     }
+
+-- pages between others in the place of some with as much room
+pub rooms-between : (first old new behind : List PageTerm) → page_rooms new ≡ page_rooms old
+    → page_rooms (first ++ (new ++ behind)) ≡ page_rooms (first ++ (old ++ behind))
+rooms-between [] old new behind e =
+    map-append (λ (p : PageTerm). p.room) new behind ∙ ap (λ l. l ++ page_rooms behind) e
+    ∙ sym (map-append (λ (p : PageTerm). p.room) old behind)
+rooms-between (p ∷ ps) old new behind e = ap (λ l. p.room ∷ l) (rooms-between ps old new behind e)

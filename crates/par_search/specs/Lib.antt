@@ -2,6 +2,7 @@ pub mod Batches
 pub mod Faults
 pub mod Fetches
 pub mod Flags
+pub mod Groups
 pub mod Hits
 pub mod Moves
 pub mod Rooms

@@ -1,6 +1,5 @@
 -- For private clauses alone: pages that were fetched, and shares of their records, each searched by its worker.
-use Rattle.std.specs.Prelude.{◌≡◌, ◌≢◌, ◌≤◌, Bool, IfSome, List, [], ◌∷◌, None, Some, length, slice_get, take, ℕ}
-use Rattle.std.specs.Int.{div_ceil}
+use Rattle.std.specs.Prelude.{◌≡◌, ◌≢◌, ◌≤◌, ◌+◌, Bool, IfSome, List, [], ◌∷◌, None, Some, length, slice_get, take, ℕ}
 use Rattle.std.specs.List.{flat_map}
 use Rattle.smarts_parse.specs.Pattern.{PatternTerm}
 use Rattle.store_core.specs.Calls.{NotRaised, SameHeld}
@@ -29,11 +28,11 @@ AreSmall (p ∷ ps) = (length p.records ≤ MOST_RECORDS) × AreSmall ps
 abbrev pub hits_in : List WorkerTerm → List ℕ
 hits_in workers = flat_map (λ w. w.hits) workers
 
--- each worker has the hits of its share, where each takes an equal share of the records
-abbrev pub AreFound : PatternTerm → List Shared → List WorkerTerm → Type 0
-AreFound pattern records workers =
+-- each worker has the hits of its share, where shares are of this size, and the first has this number
+abbrev pub AreFoundFrom : PatternTerm → (size number : ℕ) → List Shared → List WorkerTerm → Type 0
+AreFoundFrom pattern size number records workers =
     (k : ℕ) (worker : WorkerTerm) → slice_get workers k ≡ Some worker
-    → AreMatched pattern (founds (piece_of (div_ceil (length records) (length workers)) k records)) worker.hits
+    → AreMatched pattern (founds (piece_of size (number + k) records)) worker.hits
 
 -- the first of these pages were fetched
 pub record HasFetched {S : Type 0} (of : meaning.Ghosts S) (old new : S) (slot size : ℕ) (want : List Bool)
@@ -47,6 +46,7 @@ pub record HasFetched {S : Type 0} (of : meaning.Ghosts S) (old new : S) (slot s
   pub records : records_of (fetched slot calls) ≡ founds (records_in (take result.count pages))
   pub tried : result.tried ≡ length (records_in (take result.count pages))
   pub full : result.fault ≡ None → result.from ≢ None → length calls ≡ length pages
+  pub whole : result.fault ≡ None → result.from ≢ None → result.count ≡ length pages
   pub from : IfSome result.from (λ n. n ≤ 1000000000)
   pub worn : result.fault ≡ Some Worn → of.worn new
   pub held : SameHeld (of.holds old) (of.holds new)

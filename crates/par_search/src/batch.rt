@@ -1,6 +1,7 @@
 //! Pages that are fetched one behind the other, to be searched together.
-ghost use Rattle.std.specs.Prelude.{◌≡◌, ◌≤◌, All, IfSome, length, map, ℕ};
+ghost use Rattle.std.specs.Prelude.{◌≡◌, ◌≤◌, ◌<◌, ◌+◌, ◌^◌, ◌↔◌, All, IfSome, IsTrue, length, map, ℕ};
 ghost use Rattle.store_core.specs.Records.{PageTerm};
+ghost use Rattle.par_search.specs.Groups.{AreBoth, GoesOn};
 ghost use Rattle.par_search.specs.Searches.{place_of};
 ghost use Rattle.par_search.specs.Shares.{HasFetched};
 ghost use Rattle.par_search.specs.declared.batch.TheConstants.{MOST_PAGES};
@@ -37,13 +38,36 @@ pub struct Fetched {
     pub fault: Option<SearchFault>,
 }
 
+impl Fetched {
+    /// Whether more pages may be fetched: none failed, and one follows.
+    pub fn goes_on(&self) -> bool
+        ensures { IsTrue result ↔ GoesOn self.now }
+    {
+        self.fault.is_none() && self.from.is_some()
+    }
+
+    /// These pages and those that were fetched behind them.
+    pub fn followed_by(&self, next: &Fetched) -> Fetched
+        requires few { self.now.tried + next.now.tried < 2 ^ 32 }
+        requires short { self.now.count + next.now.count < 2 ^ 64 }
+        ensures { AreBoth self.now next.now result }
+    {
+        Fetched {
+            count: self.count + next.count,
+            tried: self.tried + next.tried,
+            from: next.from,
+            fault: next.fault,
+        }
+    }
+}
+
 /// Fetches a page into each place in turn, until no page follows or a fetch fails.
 pub fn fetch_pages<S: Service>(
-    service: &mut S,
     pin: &Pin,
     want: &Print,
     size: u32,
     from: Option<u32>,
+    service: &mut S,
     pages: &mut [Page],
 ) -> Fetched
     requires held { S.holds service.old pin.now.slot pin.now.version }

@@ -7,7 +7,8 @@ ghost use Rattle.smarts_parse.specs.Sound.{IsSoundPattern};
 ghost use Rattle.store_machine.specs.Answers.{AreMatched};
 ghost use Rattle.store_core.specs.Records.{founds};
 ghost use Rattle.par_search.specs.Flags.{WorkerTerm, piece_of};
-ghost use Rattle.par_search.specs.Shares.{AreFound, hits_in, records_in};
+ghost use Rattle.par_search.specs.Groups.{CanMatch, HasMatched};
+ghost use Rattle.par_search.specs.Shares.{AreFoundFrom, hits_in, records_in};
 ghost use Rattle.par_search.specs.declared.pieces.TheConstants.{MOST_WORKERS};
 
 use crate::meter::Meter;
@@ -17,76 +18,159 @@ use std::thread;
 use std::thread::Threads;
 use store_core::Page;
 
-/// Searches pages of so many records together. The records are shared among the workers, as many to each, the last ones
-/// fewer or none, and each share is searched in a thread of its own, where one can be made; one record alone needs
-/// none. The meter is told of each share that has records. Takes no memory.
-pub fn find_in_shares<R: Threads + Sync, M: Meter>(
+/// Searches pages of so many records together, and appends their hits.
+pub fn match_pages<R: Threads + Sync, M: Meter>(
     rt: &R,
     pages: &[Page],
     total: u32,
     pattern: &Pattern,
+    meter: &M,
     workers: &mut [Worker],
-    meter: &M,
+    hits: &mut Vec<u32>,
 )
-    requires total { total ≡ length (records_in pages.now) }
-    requires some { 1 ≤ length workers.old }
-    requires few { length workers.old ≤ MOST_WORKERS }
-    requires room { All (λ (w : WorkerTerm). div_ceil total (length workers.old) ≤ w.share) workers.old }
-    requires sound { IsSoundPattern (pattern_of pattern.now) }
-    ensures found { AreFound (pattern_of pattern.now) (records_in pages.now) workers.new }
-    ensures room { map {B = ℕ} (λ w. w.room) workers.new ≡ map {B = ℕ} (λ w. w.room) workers.old }
-    ensures share { map {B = ℕ} (λ w. w.share) workers.new ≡ map {B = ℕ} (λ w. w.share) workers.old }
+    requires can { CanMatch (pattern_of pattern.now) pages.now total workers.old
+        hits.old.items (vec_capacity hits.old) }
+    ensures { HasMatched (pattern_of pattern.now) pages.now workers.old workers.new
+        hits.old.items hits.new.items (vec_capacity hits.old) (vec_capacity hits.new) }
 {
-    let threads = if total > 1 { workers.len() } else { 1 };
-    let size = total.div_ceil(workers.len() as u32);
-    thread::for_each_mut(
-        rt,
-        workers,
-        threads,
-        &|number: usize, worker: &mut Worker|
-            requires number { number < 16 }
-            requires share { size ≤ worker.old.share }
-            requires sound { IsSoundPattern (pattern_of pattern.now) }
-            ensures found { AreMatched (pattern_of pattern.entry.now)
-                (founds (piece_of size number (records_in pages.entry.now))) worker.new.hits }
-            ensures room { worker.new.room ≡ worker.old.room }
-            ensures share { worker.new.share ≡ worker.old.share }
-        { find_in_share(pages, total, size, number, pattern, worker, meter) },
-    );
+    let shares = Shares {
+        pages,
+        total,
+        size: total.div_ceil(workers.len() as u32),
+        apart: if total > 1 { workers.len() - 1 } else { 0 },
+        pattern,
+        meter,
+    };
+    let mut nothing = || {};
+    shares.find_beside(rt, 0, workers, &mut nothing);
+    add_all_hits(workers, hits);
 }
 
-// One share by its worker.
-fn find_in_share<M: Meter>(
-    pages: &[Page],
-    total: u32,
-    size: u32,
-    number: usize,
-    pattern: &Pattern,
-    worker: &mut Worker,
-    meter: &M,
-)
-    requires number { number < 16 }
-    requires share { size ≤ worker.old.share }
-    requires sound { IsSoundPattern (pattern_of pattern.now) }
-    ensures found { AreMatched (pattern_of pattern.now) (founds (piece_of size number (records_in pages.now)))
-        worker.new.hits }
-    ensures room { worker.new.room ≡ worker.old.room }
-    ensures share { worker.new.share ≡ worker.old.share }
-{
-    let start = number * size as usize;
-    if start < total as usize {
-        meter.begin(number as u32);
+/// Pages that are searched in shares: of so many records, one behind the other, each share has as many, the last ones
+/// fewer or none. A meter is told of each share that has records, before it is searched.
+#[derive(Drop)]
+pub struct Shares<'a, M> {
+    pub pages: &'a [Page],
+    pub total: u32,
+    pub size: u32,
+    /// How many of the first are searched in threads of their own, where they have records.
+    pub apart: usize,
+    pub pattern: &'a Pattern,
+    pub meter: &'a M,
+}
+
+impl<M: Meter> Shares<'_, M> {
+    /// Searches the shares from one on, in threads of their own, where they can be made, while this thread does
+    /// something else. It starts the others one behind the other: two that are started at the same time may be given to
+    /// one processor.
+    #[cycle(beside)]
+    pub fn find_beside<R: Threads + Sync, B, G: FnMut() -> B>(
+        &self,
+        rt: &R,
+        number: usize,
+        workers: &mut [Worker],
+        other: &mut G,
+    ) -> B
+        requires few { number + length workers.old ≤ MOST_WORKERS }
+        requires room { All (λ (w : WorkerTerm). self.now.size ≤ w.share) workers.old }
+        requires sound { IsSoundPattern (pattern_of self.now.pattern.now) }
+        requires other { G.pre other.old }
+        ensures found { AreFoundFrom (pattern_of self.now.pattern.now) self.now.size number
+            (records_in self.now.pages.now) workers.new }
+        ensures room { map {B = ℕ} (λ w. w.room) workers.new ≡ map {B = ℕ} (λ w. w.room) workers.old }
+        ensures share { map {B = ℕ} (λ w. w.share) workers.new ≡ map {B = ℕ} (λ w. w.share) workers.old }
+        ensures other { G.step other.old result other.new }
+    {
+        let Some((worker, rest)) = workers.split_first_mut() else {
+            return other();
+        };
+        if self.is_apart(number) {
+            return self.find_one_beside(rt, number, worker, rest, other);
+        }
+        self.find(number, worker);
+        self.find_beside(rt, number + 1, rest, other)
     }
-    worker.find(pages, start, size as usize, pattern);
+
+    // Whether a share is searched in a thread of its own.
+    fn is_apart(&self, number: usize) -> bool
+        requires number { number < 16 }
+    {
+        number < self.apart && number * (self.size as usize) < self.total as usize
+    }
+
+    // The same for the first of them and the rest.
+    #[cycle(beside)]
+    fn find_one_beside<R: Threads + Sync, B, G: FnMut() -> B>(
+        &self,
+        rt: &R,
+        number: usize,
+        worker: &mut Worker,
+        rest: &mut [Worker],
+        other: &mut G,
+    ) -> B
+        requires few { number + length rest.old < MOST_WORKERS }
+        requires share { self.now.size ≤ worker.old.share }
+        requires room { All (λ (w : WorkerTerm). self.now.size ≤ w.share) rest.old }
+        requires sound { IsSoundPattern (pattern_of self.now.pattern.now) }
+        requires other { G.pre other.old }
+        ensures found { AreMatched (pattern_of self.now.pattern.now)
+            (founds (piece_of self.now.size number (records_in self.now.pages.now))) worker.new.hits }
+        ensures same { (worker.new.room ≡ worker.old.room) × (worker.new.share ≡ worker.old.share) }
+        ensures rest { AreFoundFrom (pattern_of self.now.pattern.now) self.now.size (number + 1)
+            (records_in self.now.pages.now) rest.new }
+        ensures room { map {B = ℕ} (λ w. w.room) rest.new ≡ map {B = ℕ} (λ w. w.room) rest.old }
+        ensures share { map {B = ℕ} (λ w. w.share) rest.new ≡ map {B = ℕ} (λ w. w.share) rest.old }
+        ensures other { G.step other.old result other.new }
+    {
+        let mut share = ||
+            requires number { number < 16 }
+            requires share { self.now.size ≤ worker.now.share }
+            requires sound { IsSoundPattern (pattern_of self.now.pattern.now) }
+            ensures found { AreMatched (pattern_of self.entry.now.pattern.now)
+                (founds (piece_of self.entry.now.size number (records_in self.entry.now.pages.now)))
+                worker.exit.now.hits }
+            ensures room { worker.exit.now.room ≡ worker.entry.now.room }
+            ensures share { worker.exit.now.share ≡ worker.entry.now.share }
+        { self.find(number, worker) };
+        let mut behind = || -> B
+            requires few { number + 1 + length rest.now ≤ MOST_WORKERS }
+            requires room { All (λ (w : WorkerTerm). self.now.size ≤ w.share) rest.now }
+            requires sound { IsSoundPattern (pattern_of self.now.pattern.now) }
+            requires other { G.pre other.now }
+            ensures found { AreFoundFrom (pattern_of self.entry.now.pattern.now) self.entry.now.size (number + 1)
+                (records_in self.entry.now.pages.now) rest.exit.now }
+            ensures room { map {B = ℕ} (λ w. w.room) rest.exit.now ≡ map {B = ℕ} (λ w. w.room) rest.entry.now }
+            ensures share { map {B = ℕ} (λ w. w.share) rest.exit.now ≡ map {B = ℕ} (λ w. w.share) rest.entry.now }
+            ensures other { G.step other.entry.now result other.exit.now }
+        { self.find_beside(rt, number + 1, rest, other) };
+        let (_, done) = thread::join_mut(rt, &mut share, &mut behind);
+        done
+    }
+
+    // One share by its worker.
+    fn find(&self, number: usize, worker: &mut Worker)
+        requires number { number < 16 }
+        requires share { self.now.size ≤ worker.old.share }
+        requires sound { IsSoundPattern (pattern_of self.now.pattern.now) }
+        ensures found { AreMatched (pattern_of self.now.pattern.now)
+            (founds (piece_of self.now.size number (records_in self.now.pages.now))) worker.new.hits }
+        ensures room { worker.new.room ≡ worker.old.room }
+        ensures share { worker.new.share ≡ worker.old.share }
+    {
+        let start = number * self.size as usize;
+        if start < self.total as usize {
+            self.meter.begin(number as u32);
+        }
+        worker.find(self.pages, start, self.size as usize, self.pattern);
+    }
 }
 
-/// The hits of all shares, in order.
-pub fn join_hits(workers: &[Worker], hits: &mut Vec<u32>)
-    requires room { length (hits_in workers.now) ≤ vec_capacity hits.old }
-    ensures hits { hits.new.items ≡ hits_in workers.now }
+/// Appends the hits of all shares, in order.
+pub fn add_all_hits(workers: &[Worker], hits: &mut Vec<u32>)
+    requires room { length hits.old.items + length (hits_in workers.now) ≤ vec_capacity hits.old }
+    ensures hits { hits.new.items ≡ hits.old.items ++ hits_in workers.now }
     ensures capacity { vec_capacity hits.new ≡ vec_capacity hits.old }
 {
-    hits.clear();
     for worker in workers {
         add_hits(worker.hits(), hits);
     }

@@ -2,15 +2,16 @@
 //! records that the pattern matches.
 //!
 //! A search takes all its memory before its pin, so that only a fetch can fail later. The records of a page are cut
-//! into pieces, one for each worker. Where several pages are fetched one behind the other, each worker searches a share
-//! of all their records, so that threads are made once for all. That the pages of a pin are together the hits is a law
-//! of the machine.
+//! into pieces, one for each worker. Several pages are searched together by groups: they are fetched one behind the
+//! other, and the workers match a group, a share of its records each and in threads of their own, while the next group
+//! is fetched. That the pages of a pin are together the hits is a law of the machine.
 #![tactic(auto)]
 
 mod batch;
 mod calls;
 mod fault;
 mod find;
+mod groups;
 mod laws;
 mod meter;
 mod pieces;

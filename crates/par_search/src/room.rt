@@ -12,14 +12,14 @@ ghost use Rattle.store_core.specs.Records.{Shared, founds};
 ghost use Rattle.store_core.specs.Replies.{fetch_calls};
 ghost use Rattle.par_search.specs.Rooms.{HasNothing, IsRoom, SameRoom};
 ghost use Rattle.par_search.specs.Searches.{place_of};
-ghost use Rattle.par_search.specs.Shares.{AreSmall, HasFetched, records_in};
+ghost use Rattle.par_search.specs.Shares.{HasFetched, records_in};
 ghost use Rattle.par_search.specs.declared.batch.TheConstants.{MOST_PAGES};
 ghost use Rattle.par_search.specs.declared.pieces.TheConstants.{MOST_WORKERS};
 ghost use Rattle.par_search.specs.declared.worker.TheConstants.{MOST_RECORDS};
 
-use crate::batch::{BatchHits, Fetched, fetch_pages};
+use crate::batch::{BatchHits, Fetched};
 use crate::calls::fetch;
-use crate::find::{find_in_shares, join_hits};
+use crate::groups::Task;
 use crate::meter::Meter;
 use crate::pieces::{list_hits, match_pieces};
 use crate::worker::{MOST_RECORDS, Worker};
@@ -109,44 +109,42 @@ impl Room {
         list_hits(self.page.records(), &self.workers, &mut self.hits);
     }
 
-    /// Fetches pages into the batch, one behind the other.
-    pub fn fetch_batch<S: Service>(
+    /// Fetches pages into the batch, one behind the other, and finds the hits of their records.
+    pub fn search_batch<R: Threads + Sync, S: Service, M: Meter>(
         &mut self,
+        rt: &R,
         service: &mut S,
         pin: &Pin,
         want: &Print,
         from: Option<u32>,
+        pattern: &Pattern,
+        meter: &M,
     ) -> Fetched
         requires held { S.holds service.old pin.now.slot pin.now.version }
         requires room { IsRoom self.old }
         requires from { IfSome from (λ n. n ≤ 1000000000) }
+        requires sound { IsSoundPattern (pattern_of pattern.now) }
         ensures fetched { HasFetched S.Service service.old service.new pin.now.slot self.old.size want.now
             (place_of from) self.new.batch.items result }
-        ensures room { SameRoom self.old self.new }
-    {
-        fetch_pages(service, pin, want, self.size, from, &mut self.batch)
-    }
-
-    /// Matches the records of the pages of the batch that were fetched.
-    pub fn match_batch<R: Threads + Sync, M: Meter>(
-        &mut self,
-        rt: &R,
-        fetched: &Fetched,
-        pattern: &Pattern,
-        meter: &M,
-    )
-        requires room { IsRoom self.old }
-        requires within { fetched.now.count ≤ vec_len self.old.batch }
-        requires small { AreSmall (take fetched.now.count self.old.batch.items) }
-        requires tried { fetched.now.tried ≡ length (records_in (take fetched.now.count self.old.batch.items)) }
-        requires sound { IsSoundPattern (pattern_of pattern.now) }
         ensures matched { AreMatched (pattern_of pattern.now)
-            (founds (records_in (take fetched.now.count self.old.batch.items))) self.new.hits.items }
+            (founds (records_in (take result.count self.new.batch.items))) self.new.hits.items }
         ensures room { SameRoom self.old self.new }
     {
-        let pages = &self.batch[..fetched.count];
-        find_in_shares(rt, pages, fetched.tried, pattern, &mut self.workers, meter);
-        join_hits(&self.workers, &mut self.hits);
+        let task = Task {
+            rt,
+            pin,
+            want,
+            size: self.size,
+            pattern,
+            meter,
+        };
+        task.search(
+            from,
+            service,
+            &mut self.batch,
+            &mut self.workers,
+            &mut self.hits,
+        )
     }
 
     /// What was found in the pages that were fetched.

@@ -178,9 +178,9 @@ impl Search {
         Ok(self.room.shown(last))
     }
 
-    /// The next pages, as many as are searched together, and their hits: fetches one behind the other, then matching.
-    /// Behind the last page no call is made. After a fault what was fetched before it is searched all the same, and the
-    /// search goes on from there.
+    /// The next pages, as many as are searched together, and their hits: fetches one behind the other, and matching,
+    /// which goes on beside the fetches where there are several workers. Behind the last page no call is made. After a
+    /// fault what was fetched before it is searched all the same, and the search goes on from there.
     pub fn next_pages<R: Threads + Sync, S: Service, M: Meter>(
         &mut self,
         rt: &R,
@@ -193,10 +193,15 @@ impl Search {
         ensures held { SameHeld (S.holds service.old) (S.holds service.new) }
         ensures bounds { NotRaised (S.bounds service.old) (S.bounds service.new) }
     {
-        let fetched = self
-            .room
-            .fetch_batch(service, &self.pin, &self.want, self.from);
-        self.room.match_batch(rt, &fetched, &self.pattern, meter);
+        let fetched = self.room.search_batch(
+            rt,
+            service,
+            &self.pin,
+            &self.want,
+            self.from,
+            &self.pattern,
+            meter,
+        );
         self.from = fetched.from;
         self.room.found(fetched)
     }

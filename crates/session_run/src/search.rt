@@ -19,7 +19,8 @@ use std::alloc::Global;
 use std::thread::Threads;
 use store_core::Service;
 
-/// Begins a search for a pattern, at the head, by single pages and by batches of at most this many.
+/// Begins a search for a pattern, at the head, by single pages and by batches of at most this many. Beside a thread that
+/// fetches the pages of a batch, all workers but one match.
 pub fn begin<S: Service>(
     alloc: Global,
     service: &mut S,
@@ -37,14 +38,12 @@ pub fn begin<S: Service>(
     ensures begun { IfOk result (λ walk. HasBegun pattern settings.now.page walk.search) }
     ensures new { IfOk result (λ walk. IsNew walk) }
 {
-    match Search::start_batched(
-        alloc,
-        service,
-        pattern,
-        settings.workers,
-        settings.page,
-        most,
-    ) {
+    let workers = if most > 1 {
+        settings.workers.saturating_sub(1).max(1)
+    } else {
+        settings.workers
+    };
+    match Search::start_batched(alloc, service, pattern, workers, settings.page, most) {
         Ok(search) => Ok(Walk {
             search,
             tried: 0,
