@@ -31,6 +31,9 @@ mod turns;
 mod watches;
 mod words;
 
+// The words of a session in memory.
+const MEM: &[&str] = &["mem"];
+
 // What a call left of its one end.
 type Answer = Outcome<MemDisk, MemSource, MemSink>;
 
@@ -140,6 +143,24 @@ fn put_by<D: Drop>(answer: &Outcome<D, MemSource, MemSink>) -> &[u8] {
     }
 }
 
+// A script over words, given in these ways, has the status and the replies.
+fn answers<R: Abort + Threads + Wait + Sync>(
+    rt: &R,
+    alloc: Global,
+    words: &[&str],
+    script: &[u8],
+    ways: Ways<'_>,
+    status: u8,
+    replies: &[u8],
+) -> Result<(), Fail>
+    requires { 0 < ways.piece }
+{
+    let answer = call(rt, alloc, words, script, ways)?;
+    assert_eq!(rt; answer.status, status, "at {words:?}");
+    assert_eq!(rt; put_by(&answer), replies, "at {words:?}");
+    Ok(())
+}
+
 // A script over words has its replies, and the status is 0. Behind `> ` stands a line of the script, behind `< ` a line
 // of the replies, and behind `# ` what a reader is told.
 fn check<R: Abort + Threads + Wait + Sync>(
@@ -161,8 +182,13 @@ fn check<R: Abort + Threads + Wait + Sync>(
             assert!(rt; row.starts_with("# "), "at {row:?}");
         }
     }
-    let answer = call(rt, alloc, words, script.as_bytes(), PLAIN)?;
-    assert_eq!(rt; answer.status, 0, "at {script:?}");
-    assert_eq!(rt; put_by(&answer), replies.as_bytes(), "at {script:?}");
-    Ok(())
+    answers(
+        rt,
+        alloc,
+        words,
+        script.as_bytes(),
+        PLAIN,
+        0,
+        replies.as_bytes(),
+    )
 }

@@ -1,7 +1,7 @@
 //! Generated scripts and their summaries.
 ghost use Rattle.std.specs.Prelude.{◌<◌};
 
-use super::{PLAIN, Ways, call, put_by};
+use super::{PLAIN, Ways, answers, call, put_by};
 use std::test::Fail;
 
 #[test]
@@ -27,9 +27,15 @@ fn summaries(rt: HostRuntime) -> Result<(), Fail> {
             takes: &[0],
             puts: &[],
         };
-        let answer = call(&rt, alloc, &["bulk", "1", count], b"stats\n", ways)?;
-        assert_eq!(rt; answer.status, 0, "at {count}");
-        assert_eq!(rt; put_by(&answer), summary.as_bytes(), "at {count}");
+        answers(
+            &rt,
+            alloc,
+            &["bulk", "1", count],
+            b"stats\n",
+            ways,
+            0,
+            summary.as_bytes(),
+        )?;
     }
     Ok(())
 }
@@ -38,27 +44,20 @@ fn summaries(rt: HostRuntime) -> Result<(), Fail> {
 fn one_summary_by_any_pages_and_workers(rt: HostRuntime) -> Result<(), Fail> {
     let alloc = rt.alloc();
     let first = call(&rt, alloc, &["bulk", "1", "2000"], b"", PLAIN)?;
-    assert_eq!(rt; first.status, 0);
-    assert!(rt;
-        put_by(&first).starts_with(b"bulk seed 1 count 2000\nversion 2000\nsearch C=O tried ")
-    );
+    let summary = put_by(&first);
+    assert!(rt; summary.starts_with(b"bulk seed 1 count 2000\nversion 2000\nsearch C=O tried "));
     let rows: [&[&str]; 3] = [
         &["bulk", "1", "2000"],
         &["bulk", "1", "2000", "--page", "7"],
         &["bulk", "--workers=4", "1", "2000"],
     ];
     for words in rows {
-        let answer = call(&rt, alloc, words, b"", PLAIN)?;
-        assert_eq!(rt; answer.status, 0, "at {words:?}");
-        assert_eq!(rt; put_by(&answer), put_by(&first), "at {words:?}");
+        answers(&rt, alloc, words, b"", PLAIN, 0, summary)?;
     }
     let ways = Ways {
         piece: 1,
         takes: &[],
         puts: &[0],
     };
-    let failed = call(&rt, alloc, &["bulk", "1", "2"], b"", ways)?;
-    assert_eq!(rt; failed.status, 4);
-    assert!(rt; put_by(&failed).is_empty());
-    Ok(())
+    answers(&rt, alloc, &["bulk", "1", "2"], b"", ways, 4, b"")
 }

@@ -27,41 +27,57 @@ fn run<R: Threads + Wait + Sync>(
     call_on(rt, alloc, &["run", "f"], script.as_bytes(), PLAIN, (a, b))
 }
 
+// The compacted store with a second commit.
+const TWO_COMMITS: &[u8] =
+    b"ZCHEMDB2\x01\0\0\0\x01\0\0\0\x01\0\0\0\x0d\0\0\0\x04\x01\0\0\0\x01\0\0\0\x01CCO\
+    Z\x07\0\0\0\x01\x02\0\0\0\x01C\0";
+
 #[test]
 fn a_store_is_compacted(rt: HostRuntime) -> Result<(), Fail> {
-    let alloc = rt.alloc();
-    let first = run(&rt, alloc, ONE_COMMIT, b"", "compact\ncompact\ncompact\n")?;
-    assert_eq!(rt; first.status, 0);
-    assert_eq!(rt;
-        put_by(&first),
-        b"compacting 1\ncompacting 0\ncompacted 1\n".as_slice()
-    );
-    assert_eq!(rt; first.a.bytes(), ONE_COMMIT);
-    assert_eq!(rt; first.b.bytes(), COMPACTED);
-    let second = run(&rt, alloc, ONE_COMMIT, COMPACTED, "show 1\nregister 2 C\n")?;
-    assert_eq!(rt; second.status, 0);
-    assert_eq!(rt;
-        put_by(&second),
-        b"record 1 version 1 smiles CCO\nok 2\n".as_slice()
-    );
-    assert_eq!(rt; second.a.bytes(), ONE_COMMIT);
-    // the other way back
-    let third = run(
-        &rt,
-        alloc,
-        ONE_COMMIT,
-        second.b.bytes(),
-        "compact\ncompact\ncompact\nstats\n",
-    )?;
-    assert_eq!(rt;
-        put_by(&third),
-        b"compacting 2\ncompacting 0\ncompacted 2\nstats version 2 live 2 withdrawn 0 kept 2 pins 0\n".as_slice()
-    );
-    assert!(rt; third.a.bytes().starts_with(b"ZCHEMDB2\x02\0\0\0"));
-    // a copy that is cut
-    let cut = run(&rt, alloc, ONE_COMMIT, &COMPACTED[..36], "show 1\n")?;
-    assert_eq!(rt; cut.status, 7);
-    assert_eq!(rt; cut.place, 20);
+    // what is on the two disks, the script, its replies, and what is on the second disk then
+    let rows: [(&[u8], &str, &str, &[u8]); 2] = [
+        (
+            b"",
+            "compact\ncompact\ncompact\n",
+            "compacting 1\ncompacting 0\ncompacted 1\n",
+            COMPACTED,
+        ),
+        (
+            COMPACTED,
+            "show 1\nregister 2 C\n",
+            "record 1 version 1 smiles CCO\nok 2\n",
+            TWO_COMMITS,
+        ),
+    ];
+    for (second, script, replies, left) in rows {
+        let answer = run(&rt, rt.alloc(), ONE_COMMIT, second, script)?;
+        assert!(rt;
+            answer.status == 0 && put_by(&answer) == replies.as_bytes(),
+            "{script}"
+        );
+        assert!(rt;
+            answer.a.bytes() == ONE_COMMIT && answer.b.bytes() == left,
+            "{script}"
+        );
+    }
+    Ok(())
+}
+
+#[test]
+fn a_store_is_compacted_to_the_first_disk(rt: HostRuntime) -> Result<(), Fail> {
+    let script = "compact\ncompact\ncompact\nstats\n";
+    let replies =
+        b"compacting 2\ncompacting 0\ncompacted 2\nstats version 2 live 2 withdrawn 0 kept 2 pins 0\n";
+    let answer = run(&rt, rt.alloc(), ONE_COMMIT, TWO_COMMITS, script)?;
+    assert_eq!(rt; put_by(&answer), replies.as_slice());
+    assert!(rt; answer.a.bytes().starts_with(b"ZCHEMDB2\x02\0\0\0"));
+    Ok(())
+}
+
+#[test]
+fn a_cut_copy_is_damaged(rt: HostRuntime) -> Result<(), Fail> {
+    let answer = run(&rt, rt.alloc(), ONE_COMMIT, &COMPACTED[..36], "show 1\n")?;
+    assert_eq!(rt; (answer.status, answer.place), (7, 20));
     Ok(())
 }
 

@@ -1,11 +1,9 @@
 //! Commits, pins, pages and prunings.
 ghost use Rattle.std.specs.Prelude.{◌<◌};
 
-use super::{PLAIN, call, check, put_by};
+use super::{MEM, PLAIN, answers, check};
 use std::alloc::{AllocError, Global};
 use std::test::Fail;
-
-const MEM: &[&str] = &["mem"];
 
 #[test]
 fn states_of_an_identifier(rt: HostRuntime) -> Result<(), Fail> {
@@ -269,9 +267,15 @@ fn long_scripts(rt: HostRuntime) -> Result<(), Fail> {
         ),
     ];
     for (words, (script, replies)) in &rows {
-        let answer = call(&rt, alloc, words, script.as_bytes(), PLAIN)?;
-        assert_eq!(rt; answer.status, 0, "at {words:?}");
-        assert_eq!(rt; put_by(&answer), replies.as_bytes(), "at {words:?}");
+        answers(
+            &rt,
+            alloc,
+            words,
+            script.as_bytes(),
+            PLAIN,
+            0,
+            replies.as_bytes(),
+        )?;
     }
     Ok(())
 }

@@ -33,26 +33,26 @@ fn disk_of(alloc: Global, bytes: &[u8]) -> Result<MemDisk, AllocError> {
     MemDisk::of(alloc, bytes.to_vec(alloc)?)
 }
 
+// An answer has this status, these replies, and these bytes on its first disk, and none on its second.
+fn has_left(answer: &Answer, status: u8, replies: &str, left: &[u8]) -> bool {
+    answer.status == status
+        && put_by(answer) == replies.as_bytes()
+        && answer.a.bytes() == left
+        && answer.b.bytes().is_empty()
+}
+
 #[test]
 fn a_store_is_made_and_used_and_used_again(rt: HostRuntime) -> Result<(), Fail> {
     let alloc = rt.alloc();
     let made = init(&rt, alloc, MemDisk::new(alloc))?;
-    assert_eq!(rt; made.status, 0);
-    assert_eq!(rt; made.a.bytes(), b"ZCHEMDB1\0".as_slice());
+    assert!(rt; has_left(&made, 0, "", b"ZCHEMDB1\0"));
     let first = run(&rt, alloc, made.a, "register 1 CCO\n")?;
-    assert_eq!(rt; first.status, 0);
-    assert_eq!(rt; put_by(&first), b"ok 1\n".as_slice());
-    assert_eq!(rt; first.a.bytes(), ONE_COMMIT);
+    assert!(rt; has_left(&first, 0, "ok 1\n", ONE_COMMIT));
     let second = run(&rt, alloc, first.a, "show 1\nregister 1 C\nsearch O\n")?;
-    assert_eq!(rt; second.status, 0);
-    assert_eq!(rt;
-        put_by(&second),
-        b"record 1 version 1 smiles CCO\nrefused known\nhit 1\nend at 1 tried 1 hits 1\n".as_slice()
-    );
+    let replies = "record 1 version 1 smiles CCO\nrefused known\nhit 1\nend at 1 tried 1 hits 1\n";
+    assert!(rt; has_left(&second, 0, replies, ONE_COMMIT));
     let again = init(&rt, alloc, second.a)?;
-    assert_eq!(rt; again.status, 10);
-    assert_eq!(rt; again.a.bytes(), ONE_COMMIT);
-    assert_eq!(rt; again.b.bytes().len(), 0);
+    assert!(rt; has_left(&again, 10, "", ONE_COMMIT));
     Ok(())
 }
 
@@ -85,10 +85,8 @@ fn bytes_that_are_run(rt: HostRuntime) -> Result<(), Fail> {
     ];
     for (bytes, status, place, put) in rows {
         let answer = run(&rt, alloc, disk_of(alloc, bytes)?, "stats\n")?;
-        assert_eq!(rt; answer.status, status, "at {bytes:?}");
         assert_eq!(rt; answer.place, place, "at {bytes:?}");
-        assert_eq!(rt; put_by(&answer), put.as_bytes(), "at {bytes:?}");
-        assert_eq!(rt; answer.a.bytes(), bytes);
+        assert!(rt; has_left(&answer, status, put, bytes), "at {bytes:?}");
     }
     Ok(())
 }
@@ -140,10 +138,8 @@ fn stores_by_another_hand(rt: HostRuntime) -> Result<(), Fail> {
     ];
     for (bytes, status, place, put) in rows {
         let answer = run(&rt, alloc, disk_of(alloc, bytes)?, "show 1\nstats\n")?;
-        assert_eq!(rt; answer.status, status, "at {bytes:?}");
         assert_eq!(rt; answer.place, place, "at {bytes:?}");
-        assert_eq!(rt; put_by(&answer), put.as_bytes(), "at {bytes:?}");
-        assert_eq!(rt; answer.a.bytes(), bytes);
+        assert!(rt; has_left(&answer, status, put, bytes), "at {bytes:?}");
     }
     Ok(())
 }
@@ -159,6 +155,18 @@ fn acknowledged(replies: &[u8]) -> usize {
     count
 }
 
+// The version of the store on a disk.
+fn version_of<R: Abort + Threads + Wait + Sync>(
+    rt: &R,
+    alloc: Global,
+    disk: MemDisk,
+) -> Result<usize, Fail> {
+    let answer = run(rt, alloc, disk, "stats\n")?;
+    assert_eq!(rt; answer.status, 0);
+    let digit = put_by(&answer).get(14).copied().unwrap_or(0);
+    Ok(digit.saturating_sub(b'0') as usize)
+}
+
 // A disk whose call of this number fails: what each image then loads to is the commits that were acknowledged, and at
 // most one more.
 fn fails_once<R: Abort + Threads + Wait + Sync>(
@@ -172,18 +180,12 @@ fn fails_once<R: Abort + Threads + Wait + Sync>(
         disk.fail_once(call);
         let answer = run(rt, alloc, disk, script)?;
         if answer.status == 5 {
-            assert!(rt; put_by(&answer).is_empty(), "at {call}");
-            assert_eq!(rt; answer.a.bytes(), b"ZCHEMDB1\0".as_slice());
+            assert!(rt; has_left(&answer, 5, "", b"ZCHEMDB1\0"), "at {call}");
             continue;
         }
-        assert_eq!(rt; answer.status, 0, "at {call}");
         let sure = acknowledged(put_by(&answer));
-        assert!(rt; sure >= 2, "at {call}");
-        let image = answer.a.image(choice);
-        let later = run(rt, alloc, image, "stats\n")?;
-        assert_eq!(rt; later.status, 0, "at {call}");
-        let text = put_by(&later);
-        let version = text.get(14).copied().unwrap_or(0).saturating_sub(b'0') as usize;
+        assert!(rt; answer.status == 0 && sure >= 2, "at {call}");
+        let version = version_of(rt, alloc, answer.a.image(choice))?;
         assert!(rt;
             version == sure || version == sure.saturating_add(1),
             "at {call}"

@@ -1,6 +1,6 @@
 //! Drills: sessions on a store in memory whose disk is stopped and opened again.
 
-use super::{PLAIN, call, check, put_by};
+use super::{PLAIN, answers, check};
 use chem_shell::word_fault;
 use std::test::Fail;
 
@@ -116,9 +116,7 @@ fn words_of_a_drill(rt: HostRuntime) -> Result<(), Fail> {
             None => "",
         };
         assert_eq!(rt; text, reason, "at {words:?}");
-        let answer = call(&rt, alloc, words, b"1 stats\n", PLAIN)?;
-        assert_eq!(rt; answer.status, 2, "at {words:?}");
-        assert!(rt; put_by(&answer).is_empty(), "at {words:?}");
+        answers(&rt, alloc, words, b"1 stats\n", PLAIN, 2, b"")?;
     }
     Ok(())
 }

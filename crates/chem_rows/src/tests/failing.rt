@@ -1,7 +1,7 @@
 //! Sources and sinks that fail.
 ghost use Rattle.std.specs.Prelude.{◌<◌};
 
-use super::{PLAIN, Ways, call, put_by, session_within};
+use super::{MEM, PLAIN, Ways, answers, session_within};
 use io_edge::{MemSink, MemSource};
 use session_run::EndStatus;
 use std::alloc::{AllocError, Global};
@@ -57,10 +57,16 @@ fn each_take_fails_in_turn(rt: HostRuntime) -> Result<(), Fail> {
             takes: &takes,
             puts: &[],
         };
-        let answer = call(&rt, alloc, &["mem"], script.as_bytes(), ways)?;
         let replies = replies_within(alloc, take)?;
-        assert_eq!(rt; answer.status, 3, "at take {take}");
-        assert_eq!(rt; put_by(&answer), replies.as_bytes(), "at take {take}");
+        answers(
+            &rt,
+            alloc,
+            MEM,
+            script.as_bytes(),
+            ways,
+            3,
+            replies.as_bytes(),
+        )?;
     }
     Ok(())
 }
@@ -77,17 +83,28 @@ fn each_put_fails_in_turn(rt: HostRuntime) -> Result<(), Fail> {
             takes: &[],
             puts: &puts,
         };
-        let answer = call(&rt, alloc, &["mem"], script.as_bytes(), ways)?;
         let replies = replies_within(alloc, taken)?;
-        assert_eq!(rt; answer.status, 4, "at put {put}");
-        assert_eq!(rt; put_by(&answer), replies.as_bytes(), "at put {put}");
+        answers(
+            &rt,
+            alloc,
+            MEM,
+            script.as_bytes(),
+            ways,
+            4,
+            replies.as_bytes(),
+        )?;
         taken = taken.saturating_add(lines.len());
     }
-    let answer = call(&rt, alloc, &["mem"], script.as_bytes(), PLAIN)?;
     let replies = replies_within(alloc, taken)?;
-    assert_eq!(rt; answer.status, 0);
-    assert_eq!(rt; put_by(&answer), replies.as_bytes());
-    Ok(())
+    answers(
+        &rt,
+        alloc,
+        MEM,
+        script.as_bytes(),
+        PLAIN,
+        0,
+        replies.as_bytes(),
+    )
 }
 
 // How a session over two lines ends that takes no more bytes than this, and what it put.

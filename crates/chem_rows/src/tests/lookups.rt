@@ -1,8 +1,6 @@
 //! Lookups: what is the same structure, and what is most similar.
-use super::{PLAIN, call, check, put_by};
+use super::{MEM, PLAIN, answers, check};
 use std::test::Fail;
-
-const MEM: &[&str] = &["mem"];
 
 #[test]
 fn ethanol_written_in_two_ways_is_the_same(rt: HostRuntime) -> Result<(), Fail> {
@@ -227,14 +225,21 @@ fn no_pin_is_free_for_a_lookup(rt: HostRuntime) -> Result<(), Fail> {
         write!(script, "open s{number} C\n")?;
         replies.push_str("opened 1\n")?;
     }
-    script.push_str("same C\nsame C(\nregister-new 1 C\nregister-new 2 CO\nsimilar 0 1 1 C\n")?;
-    replies.push_str("refused pins\nrefused smiles syntax\n")?;
-    replies.push_str("refused pins\nrefused pins\nrefused pins\n")?;
-    script.push_str("close s7\nsame C\nstats\n")?;
-    replies.push_str("closed\nhit 1\nend at 1 tried 1 hits 1\n")?;
-    replies.push_str("stats version 1 live 1 withdrawn 0 kept 1 pins 63\n")?;
-    let answer = call(&rt, alloc, MEM, script.as_bytes(), PLAIN)?;
-    assert_eq!(rt; answer.status, 0);
-    assert_eq!(rt; put_by(&answer), replies.as_bytes());
-    Ok(())
+    script.push_str(
+        "same C\nsame C(\nregister-new 1 C\nregister-new 2 CO\nsimilar 0 1 1 C\n\
+        close s7\nsame C\nstats\n",
+    )?;
+    replies.push_str(
+        "refused pins\nrefused smiles syntax\nrefused pins\nrefused pins\nrefused pins\n\
+        closed\nhit 1\nend at 1 tried 1 hits 1\nstats version 1 live 1 withdrawn 0 kept 1 pins 63\n",
+    )?;
+    answers(
+        &rt,
+        alloc,
+        MEM,
+        script.as_bytes(),
+        PLAIN,
+        0,
+        replies.as_bytes(),
+    )
 }

@@ -1,9 +1,7 @@
 //! Patterns: what they find, what is tried, and what is refused.
 
-use super::check;
+use super::{MEM, check};
 use std::test::Fail;
-
-const MEM: &[&str] = &["mem"];
 
 #[test]
 fn patterns_and_hits(rt: HostRuntime) -> Result<(), Fail> {

@@ -1,7 +1,7 @@
 //! Lines that are refused, and those behind them.
 ghost use Rattle.std.specs.Prelude.{◌<◌};
 
-use super::{PLAIN, Ways, call, check, put_by};
+use super::{MEM, PLAIN, Ways, answers, check};
 use std::alloc::{AllocError, Global};
 use std::test::Fail;
 
@@ -136,9 +136,7 @@ fn long_lines_and_bytes_that_are_no_text(rt: HostRuntime) -> Result<(), Fail> {
             takes: &[],
             puts: &[],
         };
-        let answer = call(&rt, alloc, &["mem"], &script, ways)?;
-        assert_eq!(rt; answer.status, 0, "by {piece}");
-        assert_eq!(rt; put_by(&answer), replies.as_bytes(), "by {piece}");
+        answers(&rt, alloc, MEM, &script, ways, 0, replies.as_bytes())?;
     }
     Ok(())
 }
@@ -210,8 +208,5 @@ fn lines_that_nest_as_deep_as_they_are_long(rt: HostRuntime) -> Result<(), Fail>
         push_nest(&mut script, words, opening, closing, count)?;
         replies.push_str(reply)?;
     }
-    let answer = call(&rt, alloc, &["mem"], &script, PLAIN)?;
-    assert_eq!(rt; answer.status, 0);
-    assert_eq!(rt; put_by(&answer), replies.as_bytes());
-    Ok(())
+    answers(&rt, alloc, MEM, &script, PLAIN, 0, replies.as_bytes())
 }

@@ -1,9 +1,7 @@
 //! Records of SD files, and their data items.
-use super::{PLAIN, call, check, put_by};
-use std::alloc::AllocError;
+use super::{MEM, PLAIN, answers, check};
+use std::alloc::{AllocError, Global};
 use std::test::Fail;
-
-const MEM: &[&str] = &["mem"];
 
 // A molfile of one atom, by its header line.
 const OXYGEN: &str = "
@@ -165,10 +163,15 @@ fn a_record_with_data_items_in_lines_with_cr(rt: HostRuntime) -> Result<(), Fail
         data 999999999 A\ndata 999999999 \ndata 999999999 B\ndata 999999999\ndata 0 A\n";
     let replies = "ok 1\ndata 999999999 3\none\n \ntwo\ndata 999999999 0\n\
         refused data\nrefused syntax\nrefused id\n";
-    let answer = call(&rt, alloc, MEM, script.as_bytes(), PLAIN)?;
-    assert_eq!(rt; answer.status, 0);
-    assert_eq!(rt; put_by(&answer), replies.as_bytes());
-    Ok(())
+    answers(
+        &rt,
+        alloc,
+        MEM,
+        script.as_bytes(),
+        PLAIN,
+        0,
+        replies.as_bytes(),
+    )
 }
 
 #[test]
@@ -220,49 +223,77 @@ fn lines_that_take_no_records_and_lines_that_take_them_in_vain(
 #[test]
 fn records_that_are_too_long_leave_the_others(rt: HostRuntime) -> Result<(), Fail> {
     let alloc = rt.alloc();
-    let mut script = String::from_str(alloc, "register-sd 1 5\n")?;
-    script.push_str(OXYGEN)?;
-    script.push_str("M  END\n$$$$\n")?;
-    script.push_str(OXYGEN)?;
-    script.push_str("M  END\n")?;
-    push_many(&mut script, "x", 65_537)?;
-    script.push_str("\n$$$$\n")?;
-    script.push_str(OXYGEN)?;
-    script.push_str("M  END\n")?;
-    push_many(&mut script, "x\n", 131_072)?;
-    script.push_str("$$$$\n")?;
-    push_many(&mut script, "$", 65_540)?;
-    script.push_str("\n$$$$\n")?;
-    script.push_str(OXYGEN)?;
-    script.push_str("M  END\n$$$$\nstats\n")?;
+    let pieces = [
+        ("register-sd 1 5\n", 1),
+        (OXYGEN, 1),
+        ("M  END\n$$$$\n", 1),
+        (OXYGEN, 1),
+        ("M  END\n", 1),
+        ("x", 65_537),
+        ("\n$$$$\n", 1),
+        (OXYGEN, 1),
+        ("M  END\n", 1),
+        ("x\n", 131_072),
+        ("$$$$\n", 1),
+        ("$", 65_540),
+        ("\n$$$$\n", 1),
+        (OXYGEN, 1),
+        ("M  END\n$$$$\nstats\n", 1),
+    ];
+    let script = joined(alloc, &pieces)?;
     let replies = "ok 1\nrefused long\nrefused molfile limit\nrefused long\nok 2\n\
         stats version 2 live 2 withdrawn 0 kept 2 pins 0\n";
-    let answer = call(&rt, alloc, MEM, script.as_bytes(), PLAIN)?;
-    assert_eq!(rt; answer.status, 0);
-    assert_eq!(rt; put_by(&answer), replies.as_bytes());
-    Ok(())
+    answers(
+        &rt,
+        alloc,
+        MEM,
+        script.as_bytes(),
+        PLAIN,
+        0,
+        replies.as_bytes(),
+    )
 }
 
 // A record with a line that is too long counts 262,145 bytes, and 256 of these are more than 67,108,864.
 #[test]
 fn texts_of_too_many_bytes_are_refused_from_one_on(rt: HostRuntime) -> Result<(), Fail> {
     let alloc = rt.alloc();
-    let mut long = String::new(alloc);
-    push_many(&mut long, "0123456789abcdef", 4097)?;
-    long.push_str("\n$$$$\n")?;
-    let mut script = String::from_str(alloc, "register-sd 1 258\n")?;
-    push_many(&mut script, long.as_str(), 255)?;
-    script.push_str("$$$$\n")?;
-    script.push_str(long.as_str())?;
-    script.push_str("$$$$\nstats\n")?;
-    let mut replies = String::new(alloc);
-    push_many(&mut replies, "refused long\n", 255)?;
-    replies.push_str("refused molfile cut\nrefused sd limit\nrefused sd limit\n")?;
-    replies.push_str("stats version 0 live 0 withdrawn 0 kept 0 pins 0\n")?;
-    let answer = call(&rt, alloc, MEM, script.as_bytes(), PLAIN)?;
-    assert_eq!(rt; answer.status, 0);
-    assert_eq!(rt; put_by(&answer), replies.as_bytes());
-    Ok(())
+    let long = joined(alloc, &[("0123456789abcdef", 4097), ("\n$$$$\n", 1)])?;
+    let lines = [
+        ("register-sd 1 258\n", 1),
+        (long.as_str(), 255),
+        ("$$$$\n", 1),
+        (long.as_str(), 1),
+        ("$$$$\nstats\n", 1),
+    ];
+    let script = joined(alloc, &lines)?;
+    let lines = [
+        ("refused long\n", 255),
+        (
+            "refused molfile cut\nrefused sd limit\nrefused sd limit\n",
+            1,
+        ),
+        ("stats version 0 live 0 withdrawn 0 kept 0 pins 0\n", 1),
+    ];
+    let replies = joined(alloc, &lines)?;
+    answers(
+        &rt,
+        alloc,
+        MEM,
+        script.as_bytes(),
+        PLAIN,
+        0,
+        replies.as_bytes(),
+    )
+}
+
+// A text of pieces, each so many times.
+fn joined(alloc: Global, pieces: &[(&str, usize)]) -> Result<String, AllocError> {
+    let mut text = String::new(alloc);
+    for (piece, times) in pieces {
+        push_many(&mut text, piece, *times)?;
+    }
+    Ok(text)
 }
 
 fn push_many(text: &mut String, piece: &str, times: usize) -> Result<(), AllocError> {

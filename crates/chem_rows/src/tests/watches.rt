@@ -1,9 +1,7 @@
 //! Standing searches: what is watched, what commits do to its hits, and when they are searched anew.
-use super::{PLAIN, call, check, put_by};
+use super::{MEM, PLAIN, answers, check};
 use std::alloc::{AllocError, Global};
 use std::test::Fail;
-
-const MEM: &[&str] = &["mem"];
 
 #[test]
 fn own_commits_move_a_watch(rt: HostRuntime) -> Result<(), Fail> {
@@ -189,9 +187,15 @@ fn long_scripts(rt: HostRuntime) -> Result<(), Fail> {
     let alloc = rt.alloc();
     let rows = [many_watches(alloc)?, no_pin(alloc)?];
     for (script, replies) in &rows {
-        let answer = call(&rt, alloc, MEM, script.as_bytes(), PLAIN)?;
-        assert_eq!(rt; answer.status, 0, "at {script:?}");
-        assert_eq!(rt; put_by(&answer), replies.as_bytes(), "at {script:?}");
+        answers(
+            &rt,
+            alloc,
+            MEM,
+            script.as_bytes(),
+            PLAIN,
+            0,
+            replies.as_bytes(),
+        )?;
     }
     Ok(())
 }

@@ -1,6 +1,6 @@
 //! Words: what they ask for, and which of them is wrong.
 
-use super::{PLAIN, call, put_by};
+use super::{PLAIN, answers};
 use chem_shell::word_fault;
 use std::test::Fail;
 
@@ -28,9 +28,7 @@ fn words_that_ask(rt: HostRuntime) -> Result<(), Fail> {
         ),
     ];
     for (words, put) in rows {
-        let answer = call(&rt, alloc, words, script, PLAIN)?;
-        assert_eq!(rt; answer.status, 0, "at {words:?}");
-        assert_eq!(rt; put_by(&answer), put.as_bytes(), "at {words:?}");
+        answers(&rt, alloc, words, script, PLAIN, 0, put.as_bytes())?;
         assert!(rt; word_fault(alloc, words)?.is_none(), "at {words:?}");
     }
     Ok(())
@@ -120,9 +118,7 @@ fn words_that_ask_for_nothing(rt: HostRuntime) -> Result<(), Fail> {
             None => "",
         };
         assert_eq!(rt; text, reason, "at {words:?}");
-        let answer = call(&rt, alloc, words, b"stats\n", PLAIN)?;
-        assert_eq!(rt; answer.status, 2, "at {words:?}");
-        assert!(rt; put_by(&answer).is_empty(), "at {words:?}");
+        answers(&rt, alloc, words, b"stats\n", PLAIN, 2, b"")?;
     }
     Ok(())
 }

@@ -1,6 +1,6 @@
 //! Worked copies: the bytes, and what a crash leaves after a stop at each call.
 
-ghost use Rattle.std.specs.Prelude.{◌≡◌, IfOk, length};
+ghost use Rattle.std.specs.Prelude.{◌≡◌, IfOk, OnOk, length};
 
 use compact_core::{Carry, CopyFault, FinishFault, shut};
 use disk_edge::{DiskFail, MemDisk};
@@ -70,31 +70,44 @@ fn a_copy_is_written_as_its_bytes(rt: HostRuntime) -> Result<(), Fail> {
     for disk in [MemDisk::new(rt.alloc()), store(rt.alloc())?] {
         let carry = copied(rt.alloc(), disk)?;
         assert_eq!(rt; carry.place(), 32);
-        match carry.finish() {
-            Ok(journal) => {
-                assert_eq!(rt; journal.header(), HEADER);
-                assert_eq!(rt; journal.place(), 32);
-                assert_eq!(rt; journal.into_disk().bytes(), COPY.as_slice());
-            }
-            Err(_) => return Err(Fail::new("not finished")),
-        }
+        let Ok(journal) = carry.finish() else {
+            return Err(Fail::new("not finished"));
+        };
+        assert_eq!(rt; (journal.header(), journal.place()), (HEADER, 32));
+        assert_eq!(rt; journal.into_disk().bytes(), COPY.as_slice());
     }
     Ok(())
+}
+
+// The bytes of a copy with three long payloads behind its commit.
+fn long_copy(alloc: Global, long: &[u8]) -> Result<Vec<u8>, AllocError> {
+    let mut bytes = COPY[..32].to_vec(alloc)?;
+    for _ in 0..3 {
+        bytes.extend_from_slice(b"\x5a\x30\x75\0\0")?;
+        bytes.extend_from_slice(long)?;
+    }
+    bytes.push(0)?;
+    Ok(bytes)
+}
+
+// Adds a long payload three times.
+fn add_thrice(carry: &mut Carry<MemDisk>, long: &Vec<u8>) -> Result<(), DiskFail>
+    requires whole { carry.old.bases ≡ carry.old.header.base_count }
+    requires place { carry.old.place ≡ 32 }
+    requires length { length long.now.items ≡ 30000 }
+    ensures { OnOk result (carry.new.bases ≡ carry.new.header.base_count) }
+{
+    carry.add(long)?;
+    carry.add(long)?;
+    carry.add(long)
 }
 
 #[test]
 fn a_long_copy_is_written_whole(rt: HostRuntime) -> Result<(), Fail> {
     let long = long(rt.alloc())?;
+    let bytes = long_copy(rt.alloc(), &long)?;
     let mut carry = copied(rt.alloc(), store(rt.alloc())?)?;
-    carry.add(&long)?;
-    carry.add(&long)?;
-    carry.add(&long)?;
-    let mut bytes = COPY[..32].to_vec(rt.alloc())?;
-    for _ in 0..3 {
-        bytes.extend_from_slice(b"\x5a\x30\x75\0\0")?;
-        bytes.extend_from_slice(&long)?;
-    }
-    bytes.push(0)?;
+    add_thrice(&mut carry, &long)?;
     match carry.finish() {
         Ok(journal) => assert!(rt; journal.into_disk().bytes() == bytes.as_slice()),
         Err(_) => return Err(Fail::new("not finished")),

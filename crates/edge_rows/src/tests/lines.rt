@@ -102,27 +102,33 @@ fn a_fault_loses_nothing(rt: HostRuntime) -> Result<(), Fail> {
 }
 
 #[test]
-fn readers_and_writers_of_std(rt: HostRuntime) -> Result<(), Fail> {
+fn a_reader_of_std(rt: HostRuntime) -> Result<(), Fail> {
     let text: &[u8] = b"ab\r\ncd";
     let mut source = StdSource::new(text);
     let said = answers(rt.alloc(), &mut source, 100)?;
     assert_eq!(rt; said.as_slice(), b"ab|cd|.".as_slice());
     assert_eq!(rt; source.take(&mut [0; 4]), Take::End);
+    Ok(())
+}
 
+#[test]
+fn writers_of_std(rt: HostRuntime) {
     let mut out = Vec::new(rt.alloc());
     let mut sink = StdSink::new(&mut out);
-    assert_eq!(rt; sink.put(b"ab"), Ok(()));
-    assert_eq!(rt; sink.put(b""), Ok(()));
-    assert_eq!(rt; sink.put(b"cd"), Ok(()));
+    assert_eq!(rt;
+        [sink.put(b"ab"), sink.put(b""), sink.put(b"cd")],
+        [Ok(()); 3]
+    );
     drop(sink);
     assert_eq!(rt; out.as_slice(), b"abcd".as_slice());
 
     // A writer that takes nothing.
     let mut room = [0; 3];
     let mut full = StdSink::new(room.as_mut_slice());
-    assert_eq!(rt; full.put(b"abc"), Ok(()));
-    assert_eq!(rt; full.put(b"d"), Err(PutFault::Failed));
-    Ok(())
+    assert_eq!(rt;
+        [full.put(b"abc"), full.put(b"d")],
+        [Ok(()), Err(PutFault::Failed)]
+    );
 }
 
 // What is read and written, where so many calls are interrupted first.

@@ -6,7 +6,7 @@ use commit_log::{
 };
 use disk_edge::MemDisk;
 use journal_core::{Journal, LoadFault};
-use std::alloc::Global;
+use std::alloc::{AllocError, Global};
 use std::test::Fail;
 
 // The entries of a file's base, and its commits.
@@ -149,16 +149,17 @@ fn an_entry_is_read_from_its_payload_alone(rt: HostRuntime) -> Result<(), Fail> 
         (b"\x05\0\0\0\0\x02\0\0\0", false),
     ];
     for (payload, is_written) in rows {
-        match decode_base(rt.alloc(), payload)? {
-            Some(entry) => {
-                assert!(rt; is_written, "{payload:?}");
-                let again = encode_base(rt.alloc(), &entry)?;
-                assert_eq!(rt; again.as_slice(), payload);
-            }
-            None => assert!(rt; !is_written, "{payload:?}"),
-        }
+        assert_eq!(rt; is_entry(rt.alloc(), payload)?, is_written, "{payload:?}");
     }
     Ok(())
+}
+
+// Whether a payload is that of an entry, which is written as the same bytes.
+fn is_entry(alloc: Global, payload: &[u8]) -> Result<bool, AllocError> {
+    match decode_base(alloc, payload)? {
+        Some(entry) => Ok(encode_base(alloc, &entry)?.as_slice() == payload),
+        None => Ok(false),
+    }
 }
 
 // Base records: `1` withdrawn at version 2, and `2` at version 5.

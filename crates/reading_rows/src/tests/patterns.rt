@@ -1,6 +1,6 @@
 //! Texts and what they are read as.
 
-use smarts_parse::{SmartsFault, parse};
+use smarts_parse::{Graph, Pattern, SmartsFault, parse};
 use std::alloc::Global;
 use std::test::Fail;
 
@@ -80,29 +80,28 @@ fn groups_are_numbered(rt: HostRuntime) -> Result<(), Fail> {
         ("([$(C.C)]O).([$([$(C)])])", &[1, 1, 2]),
     ];
     for (text, groups) in texts {
-        match parse(rt.alloc(), text.as_bytes()) {
-            Ok(pattern) => {
-                assert_eq!(rt; pattern.top.groups.as_slice(), groups, "at {text}");
-                for part in &pattern.recs {
-                    assert_eq!(rt; part.groups.len(), part.atoms.len(), "at {text}");
-                    assert!(rt; part.groups.iter().all(|group| *group == 0), "at {text}");
-                }
-            }
-            Err(_) => assert!(rt; false, "at {text}"),
-        }
+        let pattern = parse(rt.alloc(), text.as_bytes())?;
+        assert_eq!(rt; pattern.top.groups.as_slice(), groups, "at {text}");
+        assert!(rt; pattern.recs.iter().all(is_one_group), "at {text}");
     }
-    let mut text = String::new(rt.alloc());
+    let many = many_groups(rt.alloc())?;
+    assert!(rt; many.top.groups.iter().copied().eq(1..=256));
+    Ok(())
+}
+
+// Whether all atoms of a recursive part are in no group.
+fn is_one_group(part: &Graph) -> bool {
+    part.groups.len() == part.atoms.len() && part.groups.iter().all(|group| *group == 0)
+}
+
+// As many groups as a text may have.
+fn many_groups(alloc: Global) -> Result<Pattern, Fail> {
+    let mut text = String::new(alloc);
     text.push_str("(C)")?;
     for _ in 1..256 {
         text.push_str(".(C)")?;
     }
-    match parse(rt.alloc(), text.as_bytes()) {
-        Ok(pattern) => {
-            assert!(rt; pattern.top.groups.iter().copied().eq(1..=256));
-        }
-        Err(_) => assert!(rt; false, "256 groups"),
-    }
-    Ok(())
+    Ok(parse(alloc, text.as_bytes())?)
 }
 
 #[test]

@@ -1,6 +1,7 @@
 //! Primitives at one atom.
 
-use chem_core::{Atom, Mol};
+use crate::tests::{CARBON, alone};
+use chem_core::Atom;
 use smarts_mean::{RecTable, atom_true};
 use smarts_parse::{AtomPrim, Expr};
 use std::test::Fail;
@@ -8,39 +9,34 @@ use std::test::Fail;
 // The ammonium ion of mass number 15: one atom, no bond.
 #[test]
 fn primitives_at_one_atom(rt: HostRuntime) -> Result<(), Fail> {
-    let alloc = rt.alloc();
     let nitrogen = Atom {
         number: 7,
         isotope: 15,
         charge: 1,
-        hydrogens: 4,
-        aromatic: false,
-        valence: 4,
+        ..CARBON
     };
-    let atoms = [nitrogen].to_vec(alloc)?;
-    let smallest = [0].to_vec(alloc)?;
-    let component = [0].to_vec(alloc)?;
-    let mol = Mol::make(
-        alloc,
-        atoms,
-        Vec::new(alloc),
-        Vec::new(alloc),
-        smallest,
-        component,
-    )?;
-    let mut table = RecTable::reserve(alloc)?;
+    let mol = alone(rt.alloc(), nitrogen)?;
+    let mut table = RecTable::reserve(rt.alloc())?;
     let upper = AtomPrim::Symbol {
         number: 7,
         lower: false,
     };
-    let part = Expr::Prim(AtomPrim::Rec(63));
-    assert!(rt; atom_true(&Expr::Prim(upper), &mol, 0, &table));
-    assert!(rt; !atom_true(&Expr::Prim(AtomPrim::Aromatic), &mol, 0, &table));
-    assert!(rt; atom_true(&Expr::Prim(AtomPrim::Connect(4)), &mol, 0, &table));
-    assert!(rt; atom_true(&Expr::Prim(AtomPrim::NoRing), &mol, 0, &table));
-    assert!(rt; !atom_true(&Expr::Prim(AtomPrim::Charge(-1)), &mol, 0, &table));
-    assert!(rt; !atom_true(&part, &mol, 0, &table));
+    let rows = [
+        (upper, true),
+        (AtomPrim::Aromatic, false),
+        (AtomPrim::Connect(4), true),
+        (AtomPrim::NoRing, true),
+        (AtomPrim::Charge(-1), false),
+        (AtomPrim::Rec(63), false),
+    ];
+    for (prim, is_true) in rows {
+        assert_eq!(rt;
+            atom_true(&Expr::Prim(prim), &mol, 0, &table),
+            is_true,
+            "{prim:?}"
+        );
+    }
     table.put_block(63, 0, 1);
-    assert!(rt; atom_true(&part, &mol, 0, &table));
+    assert!(rt; atom_true(&Expr::Prim(AtomPrim::Rec(63)), &mol, 0, &table));
     Ok(())
 }

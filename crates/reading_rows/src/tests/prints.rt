@@ -1,5 +1,6 @@
 //! Worked examples of one atom. Longer paths have no example here: `IsPrint` and `IsNeed` say what they set.
-use chem_core::{Atom, Mol, Print};
+use crate::tests::{CARBON, alone};
+use chem_core::{Atom, Print};
 use path_print::{need, print};
 use smarts_parse::{AtomPrim, Expr, Graph, Pattern};
 use std::process::Abort;
@@ -14,22 +15,7 @@ fn assert_bits(rt: &impl Abort, print: &Print, bits: &[u16]) {
 #[test]
 fn atoms_have_two_bits(rt: HostRuntime) -> Result<(), Fail> {
     for (number, bits) in [(6, [96, 98]), (8, [358, 360])] {
-        let atom = Atom {
-            number,
-            isotope: 0,
-            charge: 0,
-            hydrogens: 4,
-            aromatic: false,
-            valence: 4,
-        };
-        let mol = Mol::make(
-            rt.alloc(),
-            [atom].to_vec(rt.alloc())?,
-            Vec::new(rt.alloc()),
-            Vec::new(rt.alloc()),
-            [0].to_vec(rt.alloc())?,
-            [0].to_vec(rt.alloc())?,
-        )?;
+        let mol = alone(rt.alloc(), Atom { number, ..CARBON })?;
         assert_bits(&rt, &print(&mol), &bits);
     }
     Ok(())

@@ -143,38 +143,51 @@ fn items_behind_the_end_of_the_molfile(rt: HostRuntime) -> Result<(), Fail> {
     Ok(())
 }
 
-#[test]
-fn records_under_identifiers_one_after_another(rt: HostRuntime) -> Result<(), Fail> {
-    let mut texts = Vec::new(rt.alloc());
+// The texts of the table, ten times.
+fn texts_of(alloc: Global) -> Result<Vec<Vec<u8>>, AllocError> {
+    let mut texts = Vec::new(alloc);
     for _ in 0..10 {
         for (front, behind, _) in TEXTS {
-            texts.push(joined(rt.alloc(), front, behind.as_bytes())?)?;
+            texts.push(joined(alloc, front, behind.as_bytes())?)?;
         }
     }
-    assert!(rt; texts.len() <= 1000);
+    Ok(texts)
+}
+
+#[test]
+fn records_under_identifiers_one_after_another(rt: HostRuntime) -> Result<(), Fail> {
+    let texts = texts_of(rt.alloc())?;
+    assert!(rt; texts.len() == 10 * TEXTS.len() && texts.len() <= 1000);
     let answers = read_records(&rt, rt.alloc(), 7, texts.as_slice())?;
-    assert_eq!(rt; answers.len(), 10 * TEXTS.len());
+    assert_eq!(rt; answers.len(), texts.len());
     for (place, answer) in answers.iter().enumerate() {
         let (front, behind, made) = TEXTS[place % TEXTS.len()];
         assert_eq!(rt; atoms_of(answer), made, "{front}{behind}");
         if let Ok(record) = answer {
-            assert_eq!(rt; record.id() as usize, 7 + place);
+            let (id, text) = (record.id() as usize, record.text());
+            assert!(rt;
+                id == 7 + place && is_joined(text, front, behind),
+                "{front}{behind}"
+            );
             assert_eq!(rt; record.format(), Format::Molfile);
-            let text = joined(rt.alloc(), front, behind.as_bytes())?;
-            assert_eq!(rt; record.text(), text.as_slice());
         }
     }
     Ok(())
+}
+
+// A molfile of so many bytes, with blank lines at its end.
+fn long_text(alloc: Global, length: usize) -> Result<Vec<u8>, AllocError> {
+    let mut text = joined(alloc, OPEN, b"M  END\n")?;
+    let blank = vec![in alloc; b'\n'; length.saturating_sub(text.len())]?;
+    text.extend_from_slice(blank.as_slice())?;
+    Ok(text)
 }
 
 #[test]
 fn a_text_over_the_limit_leaves_the_others(rt: HostRuntime) -> Result<(), Fail> {
     let mut texts = Vec::new(rt.alloc());
     for (length, _) in LONG {
-        let mut text = joined(rt.alloc(), OPEN, b"M  END\n")?;
-        let blank = vec![in rt.alloc(); b'\n'; length.saturating_sub(text.len())]?;
-        text.extend_from_slice(blank.as_slice())?;
-        texts.push(text)?;
+        texts.push(long_text(rt.alloc(), *length)?)?;
     }
     assert!(rt; texts.len() <= 3);
     let answers = read_records(&rt, rt.alloc(), 999_999_997, texts.as_slice())?;
@@ -197,6 +210,11 @@ fn joined(alloc: Global, front: &str, behind: &[u8]) -> Result<Vec<u8>, AllocErr
     let mut text = Vec::from_slice(alloc, front.as_bytes())?;
     text.extend_from_slice(behind)?;
     Ok(text)
+}
+
+// Whether a text is made of two parts.
+fn is_joined(text: &[u8], front: &str, behind: &str) -> bool {
+    text.starts_with(front.as_bytes()) && text.get(front.len()..) == Some(behind.as_bytes())
 }
 
 // The atoms of a record, or why there is none.

@@ -1,7 +1,8 @@
 //! A search over a store, and least embeddings.
-ghost use Rattle.store_machine.specs.History.{IsId};
+ghost use Rattle.std.specs.Prelude.{◌≤◌};
 ghost use Rattle.store_core.specs.Stored.{HoldsPin};
 
+use crate::tests::store_of;
 use matcher::{Scratch, first};
 use mol_finish::Format;
 use par_search::{Meter, NoMeter, Search};
@@ -12,15 +13,6 @@ use std::test::Fail;
 use std::thread;
 use std::thread::Threads;
 use store_core::{Change, Record, Service, Store};
-
-fn register(alloc: Global, store: &mut Store, id: u32, text: &[u8]) -> bool
-    requires { IsId id }
-{
-    match Record::make(alloc, id, Format::Smiles, text) {
-        Ok(record) => store.commit(Change::Register(record)).is_ok(),
-        Err(_) => false,
-    }
-}
 
 // Whether the next page has these hits, tried as many, and is the last.
 fn is_next<R: Threads + Sync, M: Meter>(
@@ -45,18 +37,9 @@ fn is_next<R: Threads + Sync, M: Meter>(
 #[test]
 fn three_records_come_by_pages_of_two(rt: HostRuntime) -> Result<(), Fail> {
     let alloc = rt.alloc();
-    let mut store = Store::fresh(alloc, 10);
-    assert!(rt; register(alloc, &mut store, 1, b"CCCCCC"));
-    assert!(rt; register(alloc, &mut store, 2, b"CCCCC"));
-    assert!(rt; register(alloc, &mut store, 3, b"OCCCCCC"));
-    let Ok(pattern) = parse(alloc, b"CCCCCC") else {
-        assert!(rt; false);
-        return Ok(());
-    };
-    let Ok(mut search) = Search::start(alloc, &mut store, pattern, 2, 2) else {
-        assert!(rt; false);
-        return Ok(());
-    };
+    let mut store = store_of(alloc, &[b"CCCCCC", b"CCCCC", b"OCCCCCC"])?;
+    let pattern = parse(alloc, b"CCCCCC")?;
+    let mut search = Search::start(alloc, &mut store, pattern, 2, 2)?;
     assert_eq!(rt; search.version(), 3);
     assert!(rt; is_next(&rt, &mut store, &mut search, &NoMeter, &[1], 2, false));
     assert!(rt; is_next(&rt, &mut store, &mut search, &NoMeter, &[3], 1, true));
@@ -83,20 +66,46 @@ fn add_next<R: Threads + Sync>(
     Ok((batch.from, batch.tried))
 }
 
-// Of forty alkanes each third is hexane. Several workers take 32 pages of one record in four groups; twenty pages of two
-// records end within the third group, and one page of 256 has all.
+// Forty alkanes, of which each third is hexane.
+fn alkanes(alloc: Global) -> Result<Store, Fail> {
+    let mut texts: [&[u8]; 40] = [b"CCCCC"; 40];
+    for third in 1..14 {
+        texts[3 * third - 1] = b"CCCCCC";
+    }
+    store_of(alloc, &texts)
+}
+
+// Whether the steps of a search for hexane tell what they should, and have each third record as a hit.
+fn has_thirds<R: Threads + Sync>(
+    rt: &R,
+    alloc: Global,
+    store: &mut Store,
+    workers: u32,
+    page: u32,
+    steps: &[(Option<u32>, u32)],
+) -> Result<bool, Fail>
+    requires some { 1 ≤ workers }
+    requires few { workers ≤ 16 }
+    requires some_records { 1 ≤ page }
+    requires few_records { page ≤ 256 }
+{
+    let pattern = parse(alloc, b"CCCCCC")?;
+    let mut search = Search::start_batched(alloc, store, pattern, workers, page, 32)?;
+    let mut all = Vec::new(alloc);
+    let mut are_told = true;
+    for step in steps {
+        are_told &= add_next(rt, store, &mut search, &mut all)? == *step;
+    }
+    search.close(store)?;
+    let thirds = [3, 6, 9, 12, 15, 18, 21, 24, 27, 30, 33, 36, 39];
+    Ok(are_told && all.as_slice() == thirds.as_slice())
+}
+
+// Several workers take 32 pages of one record in four groups; twenty pages of two records end within the third group,
+// and one page of 256 has all.
 #[test]
 fn batches_have_the_hits_of_their_pages(rt: HostRuntime) -> Result<(), Fail> {
-    let alloc = rt.alloc();
-    let mut store = Store::fresh(alloc, 100);
-    let mut want = Vec::new(alloc);
-    for id in 1..41_u32 {
-        let text: &[u8] = if id % 3 == 0 { b"CCCCCC" } else { b"CCCCC" };
-        assert!(rt; register(alloc, &mut store, id, text));
-        if id % 3 == 0 {
-            want.push(id)?;
-        }
-    }
+    let mut store = alkanes(rt.alloc())?;
     let rows: [(u32, u32, &[(Option<u32>, u32)]); 6] = [
         (1, 1, &[(Some(33), 32), (None, 8), (None, 0)]),
         (4, 1, &[(Some(33), 32), (None, 8), (None, 0)]),
@@ -106,26 +115,10 @@ fn batches_have_the_hits_of_their_pages(rt: HostRuntime) -> Result<(), Fail> {
         (4, 256, &[(None, 40), (None, 0)]),
     ];
     for (workers, page, steps) in rows {
-        let Ok(pattern) = parse(alloc, b"CCCCCC") else {
-            assert!(rt; false);
-            return Ok(());
-        };
-        let Ok(mut search) = Search::start_batched(alloc, &mut store, pattern, workers, page, 32)
-        else {
-            assert!(rt; false);
-            return Ok(());
-        };
-        let mut all = Vec::new(alloc);
-        for step in steps {
-            let told = add_next(&rt, &mut store, &mut search, &mut all)?;
-            assert_eq!(rt; told, *step, "{workers} workers, pages of {page}");
-        }
-        assert_eq!(rt;
-            all.as_slice(),
-            want.as_slice(),
+        assert!(rt;
+            has_thirds(&rt, rt.alloc(), &mut store, workers, page, steps)?,
             "{workers} workers, pages of {page}"
         );
-        assert!(rt; search.close(&mut store).is_ok());
     }
     Ok(())
 }
@@ -153,21 +146,13 @@ impl Meter for Meeting {
 #[test]
 fn two_pieces_are_matched_at_once(rt: HostRuntime) -> Result<(), Fail> {
     let alloc = rt.alloc();
-    let mut store = Store::fresh(alloc, 10);
-    assert!(rt; register(alloc, &mut store, 1, b"C"));
-    assert!(rt; register(alloc, &mut store, 2, b"CC"));
-    let Ok(pattern) = parse(alloc, b"C") else {
-        assert!(rt; false);
-        return Ok(());
-    };
+    let mut store = store_of(alloc, &[b"C", b"CC"])?;
+    let pattern = parse(alloc, b"C")?;
     let meeting = Meeting {
         begun: AtomicU32::new(0),
         alone: AtomicU32::new(0),
     };
-    let Ok(mut search) = Search::start(alloc, &mut store, pattern, 2, 2) else {
-        assert!(rt; false);
-        return Ok(());
-    };
+    let mut search = Search::start(alloc, &mut store, pattern, 2, 2)?;
     assert!(rt; is_next(&rt, &mut store, &mut search, &meeting, &[1, 2], 2, true));
     assert_eq!(rt; meeting.alone.load(Ordering::SeqCst), 0);
     assert!(rt; search.close(&mut store).is_ok());
@@ -178,10 +163,7 @@ fn two_pieces_are_matched_at_once(rt: HostRuntime) -> Result<(), Fail> {
 #[test]
 fn least_embeddings_in_ethanol(rt: HostRuntime) -> Result<(), Fail> {
     let alloc = rt.alloc();
-    let Ok(ethanol) = Record::make(alloc, 1, Format::Smiles, b"OCC") else {
-        assert!(rt; false);
-        return Ok(());
-    };
+    let ethanol = Record::make(alloc, 1, Format::Smiles, b"OCC")?;
     let mut scratch = Scratch::reserve(alloc)?;
     let rows: [(&str, Option<&[u16]>); 6] = [
         ("CC", Some(&[1, 2])),
@@ -192,16 +174,10 @@ fn least_embeddings_in_ethanol(rt: HostRuntime) -> Result<(), Fail> {
         ("[C;$(*O)]", Some(&[1])),
     ];
     for (smarts, want) in rows {
-        let Ok(pattern) = parse(alloc, smarts.as_bytes()) else {
-            assert!(rt; false, "{smarts}");
-            return Ok(());
-        };
+        let pattern = parse(alloc, smarts.as_bytes())?;
         let found = first(&pattern, ethanol.mol(), &mut scratch);
-        match (found, want) {
-            (Some(found), Some(want)) => assert_eq!(rt; found.atoms, want, "{smarts}"),
-            (None, None) => {}
-            _ => panic!(rt; "{smarts}"),
-        }
+        let atoms = found.map(|found| found.atoms);
+        assert!(rt; atoms == want, "{smarts}");
     }
     Ok(())
 }

@@ -4,10 +4,68 @@
 use disk_edge::{Disk, MemDisk};
 use journal_core::LoadFault;
 use mol_finish::Format;
-use std::alloc::Global;
+use std::alloc::{AllocError, Global};
+use std::process::Abort;
 use std::test::Fail;
-use store_core::{Change, CommitFault, Compact, CompactFault, Look, Record, Service};
+use store_core::{Change, CommitFault, Compact, CompactFault, Record, Service};
 use store_disk::{Disks, Store};
+
+// A call of a store.
+#[derive(Clone, Copy, Debug)]
+enum Call {
+    Register(u32, &'static [u8]),
+    Withdraw(u32),
+    Prune,
+    Compact,
+}
+
+// What a call answers.
+#[derive(Clone, Copy, Debug, PartialEq, Eq)]
+enum Told {
+    Commit(Result<u32, CommitFault>),
+    Pruned,
+    Compact(Result<Compact, CompactFault>),
+    Nothing,
+}
+
+// What is told of a step of a copy, while so many items are left.
+fn more(left: u32) -> Told {
+    Told::Compact(Ok(Compact::More { left }))
+}
+
+// What is told of the last step of a copy.
+fn done(generation: u32) -> Told {
+    Told::Compact(Ok(Compact::Done { generation }))
+}
+
+// What is told of a call whose disk fails.
+fn failed(doubt: bool) -> Told {
+    Told::Compact(Err(CompactFault::DiskFault { doubt }))
+}
+
+fn answer<D: Disk + Drop>(alloc: Global, store: &mut Store<D>, call: Call) -> Told {
+    match call {
+        Call::Register(id, text) => Told::Commit(register(alloc, store, id, text)),
+        Call::Withdraw(id) => Told::Commit(store.commit(Change::Withdraw(id))),
+        Call::Prune => match store.prune() {
+            Ok(_) => Told::Pruned,
+            Err(_) => Told::Nothing,
+        },
+        Call::Compact => Told::Compact(store.compact()),
+    }
+}
+
+// One call after another answers as in its row.
+fn follow<R: Abort, D: Disk + Drop>(
+    rt: &R,
+    alloc: Global,
+    store: &mut Store<D>,
+    rows: &[(Call, Told)],
+) {
+    for (call, told) in rows {
+        assert_eq!(rt; answer(alloc, store, *call), *told, "{call:?}");
+    }
+}
 
 // Registers a SMILES under an identifier.
 fn register<D: Disk + Drop>(
@@ -23,6 +81,13 @@ fn register<D: Disk + Drop>(
         Ok(record) => store.commit(Change::Register(record)),
         Err(_) => Err(CommitFault::NoMemory),
     }
+}
+
+// Disks with these files.
+fn disks_of(alloc: Global, first: &[u8], second: &[u8]) -> Result<Disks<MemDisk>, AllocError> {
+    let a = MemDisk::of(alloc, first.to_vec(alloc)?)?;
+    let b = MemDisk::of(alloc, second.to_vec(alloc)?)?;
+    Ok(Disks { a, b })
 }
 
 // How many commits a disk has beside an empty one.
@@ -46,39 +111,42 @@ fn version(alloc: Global, disks: Disks<MemDisk>) -> Result<u32, LoadFault> {
 }
 
 #[test]
-fn a_store_without_a_journal_serves(rt: HostRuntime) -> Result<(), Fail> {
+fn a_store_without_a_journal_serves(rt: HostRuntime) {
     let alloc = rt.alloc();
     let mut store = Store::in_memory(alloc, 2);
-    assert_eq!(rt; register(alloc, &mut store, 1, b"CCO"), Ok(1));
-    assert_eq!(rt; store.compact(), Ok(Compact::More { left: 1 }));
-    assert_eq!(rt; store.compact(), Ok(Compact::More { left: 0 }));
-    assert_eq!(rt; store.compact(), Ok(Compact::Done { generation: 1 }));
-    assert_eq!(rt; store.commit(Change::Withdraw(1)), Ok(2));
-    let Ok(Look::Withdrawn { version: 2 }) = store.look(1) else {
-        return Err(Fail::new("not withdrawn"));
-    };
-    assert_eq!(rt;
-        register(alloc, &mut store, 2, b"C"),
-        Err(CommitFault::Full)
-    );
-    Ok(())
+    let rows = [
+        (Call::Register(1, b"CCO"), Told::Commit(Ok(1))),
+        (Call::Compact, more(1)),
+        (Call::Compact, more(0)),
+        (Call::Compact, done(1)),
+        (Call::Withdraw(1), Told::Commit(Ok(2))),
+        (Call::Withdraw(1), Told::Commit(Err(CommitFault::Withdrawn))),
+        (
+            Call::Register(2, b"C"),
+            Told::Commit(Err(CommitFault::Full)),
+        ),
+    ];
+    follow(&rt, alloc, &mut store, &rows);
 }
 
 #[test]
 fn a_commit_is_on_the_disk(rt: HostRuntime) -> Result<(), Fail> {
     let alloc = rt.alloc();
     let mut store = Store::fresh(alloc, 2)?;
-    assert_eq!(rt; register(alloc, &mut store, 1, b"CCO"), Ok(1));
-    assert_eq!(rt;
-        register(alloc, &mut store, 1, b"CCO"),
-        Err(CommitFault::Known)
-    );
-    assert_eq!(rt; store.commit(Change::Withdraw(2)), Err(CommitFault::Absent));
-    assert_eq!(rt; store.commit(Change::Withdraw(1)), Ok(2));
-    assert_eq!(rt;
-        register(alloc, &mut store, 2, b"C"),
-        Err(CommitFault::Full)
-    );
+    let rows = [
+        (Call::Register(1, b"CCO"), Told::Commit(Ok(1))),
+        (
+            Call::Register(1, b"CCO"),
+            Told::Commit(Err(CommitFault::Known)),
+        ),
+        (Call::Withdraw(2), Told::Commit(Err(CommitFault::Absent))),
+        (Call::Withdraw(1), Told::Commit(Ok(2))),
+        (
+            Call::Register(2, b"C"),
+            Told::Commit(Err(CommitFault::Full)),
+        ),
+    ];
+    follow(&rt, alloc, &mut store, &rows);
     let disks = store.into_disks();
     let file = b"ZCHEMDB1Z\x09\0\0\0\x01\x01\0\0\0\x01CCOZ\x05\0\0\0\x03\x01\0\0\0\0";
     assert_eq!(rt; disks.a.bytes(), file.as_slice());
@@ -170,27 +238,32 @@ fn the_disk_of_the_later_generation_is_read(rt: HostRuntime) -> Result<(), Fail>
         ),
     ];
     for (first, second, want) in rows {
-        let a = MemDisk::of(alloc, first.to_vec(alloc)?)?;
-        let b = MemDisk::of(alloc, second.to_vec(alloc)?)?;
-        assert_eq!(rt; version(alloc, Disks { a, b }), want, "{want:?}");
+        let disks = disks_of(alloc, first, second)?;
+        assert_eq!(rt; version(alloc, disks), want, "{want:?}");
     }
     Ok(())
+}
+
+// The store of two disks with these files.
+fn loaded(alloc: Global, first: &[u8], second: &[u8]) -> Result<Store<MemDisk>, Fail> {
+    match Store::load(alloc, disks_of(alloc, first, second)?, 9) {
+        Ok(store) => Ok(store),
+        Err(_) => Err(Fail::new("not loaded")),
+    }
 }
 
 #[test]
 fn a_commit_is_on_the_disk_that_is_read(rt: HostRuntime) -> Result<(), Fail> {
     let alloc = rt.alloc();
-    let a = MemDisk::of(alloc, EMPTY.to_vec(alloc)?)?;
-    let b = MemDisk::of(alloc, COMPACTED.to_vec(alloc)?)?;
-    let Ok(store) = Store::load(alloc, Disks { a, b }, 5) else {
-        return Err(Fail::new("not loaded"));
-    };
-    let mut store = store;
-    assert_eq!(rt;
-        register(alloc, &mut store, 2, b"C"),
-        Err(CommitFault::Known)
-    );
-    assert_eq!(rt; register(alloc, &mut store, 3, b"C"), Ok(5));
+    let mut store = loaded(alloc, &EMPTY, &COMPACTED)?;
+    let rows = [
+        (
+            Call::Register(2, b"C"),
+            Told::Commit(Err(CommitFault::Known)),
+        ),
+        (Call::Register(3, b"C"), Told::Commit(Ok(5))),
+    ];
+    follow(&rt, alloc, &mut store, &rows);
     let disks = store.into_disks();
     assert_eq!(rt; disks.a.bytes(), EMPTY.as_slice());
     assert_eq!(rt; disks.b.bytes().len(), COMPACTED.len() + 12);
@@ -198,42 +271,37 @@ fn a_commit_is_on_the_disk_that_is_read(rt: HostRuntime) -> Result<(), Fail> {
     Ok(())
 }
 
+// What is left of a commit behind another one, where the disk stops after so many calls and this much of what was
+// written is kept: its answer, and how many commits there are.
+fn stopped(
+    alloc: Global,
+    calls: u64,
+    choice: u32,
+) -> Result<(Result<u32, CommitFault>, Result<u32, LoadFault>), Fail> {
+    let mut store = Store::fresh(alloc, 10)?;
+    register(alloc, &mut store, 1, b"CCO")?;
+    store.stop_after(calls);
+    let answer = register(alloc, &mut store, 2, b"C");
+    let disk = store.into_disks().a.image(choice);
+    Ok((answer, commits(alloc, disk)))
+}
+
 #[test]
 fn a_crash_leaves_the_commit_or_not(rt: HostRuntime) -> Result<(), Fail> {
-    let alloc = rt.alloc();
+    let sure = Err(CommitFault::DiskFault { doubt: false });
+    let doubt = Err(CommitFault::DiskFault { doubt: true });
     let rows: [(u64, Result<u32, CommitFault>, [u32; 6]); 5] = [
-        (
-            0,
-            Err(CommitFault::DiskFault { doubt: false }),
-            [1, 1, 1, 1, 1, 1],
-        ),
-        (
-            1,
-            Err(CommitFault::DiskFault { doubt: false }),
-            [1, 1, 1, 1, 1, 1],
-        ),
-        (
-            2,
-            Err(CommitFault::DiskFault { doubt: true }),
-            [1, 1, 2, 1, 1, 1],
-        ),
-        (
-            3,
-            Err(CommitFault::DiskFault { doubt: true }),
-            [2, 1, 2, 1, 1, 1],
-        ),
+        (0, sure, [1, 1, 1, 1, 1, 1]),
+        (1, sure, [1, 1, 1, 1, 1, 1]),
+        (2, doubt, [1, 1, 2, 1, 1, 1]),
+        (3, doubt, [2, 1, 2, 1, 1, 1]),
         (4, Ok(2), [2, 2, 2, 2, 2, 2]),
     ];
     for (calls, answer, left) in rows {
         for choice in 0..6 {
-            let mut store = Store::fresh(alloc, 10)?;
-            assert_eq!(rt; register(alloc, &mut store, 1, b"CCO"), Ok(1));
-            store.stop_after(calls);
-            assert_eq!(rt; register(alloc, &mut store, 2, b"C"), answer, "{calls}");
-            let disk = store.into_disks().a.image(choice);
             assert_eq!(rt;
-                commits(alloc, disk),
-                Ok(left[choice as usize]),
+                stopped(rt.alloc(), calls, choice)?,
+                (answer, Ok(left[choice as usize])),
                 "{calls} {choice}"
             );
         }
@@ -247,18 +315,16 @@ fn a_failed_call_leaves_a_store_that_commits(rt: HostRuntime) -> Result<(), Fail
     for (call, doubt) in [(1, false), (2, false), (3, true), (4, true)] {
         let mut store = Store::fresh(alloc, 10)?;
         store.fail_once(call);
-        assert_eq!(rt;
-            register(alloc, &mut store, 1, b"C"),
-            Err(CommitFault::DiskFault { doubt }),
-            "{call}"
-        );
+        let first = register(alloc, &mut store, 1, b"C");
         store.fail_once(1);
-        assert_eq!(rt;
-            register(alloc, &mut store, 1, b"N"),
+        let second = register(alloc, &mut store, 1, b"N");
+        let third = register(alloc, &mut store, 1, b"O");
+        let told = [
+            Err(CommitFault::DiskFault { doubt }),
             Err(CommitFault::DiskFault { doubt: false }),
-            "{call}"
-        );
-        assert_eq!(rt; register(alloc, &mut store, 1, b"O"), Ok(1), "{call}");
+            Ok(1),
+        ];
+        assert_eq!(rt; [first, second, third], told, "{call}");
         let disk = store.into_disks().a;
         let file = b"ZCHEMDB1Z\x07\0\0\0\x01\x01\0\0\0\x01O\0";
         assert_eq!(rt; disk.bytes(), file.as_slice(), "{call}");
@@ -275,10 +341,13 @@ const ONE: [u8; 38] = *b"ZCHEMDB2\x01\0\0\0\x01\0\0\0\x01\0\0\0\
 fn three_steps_copy_one_structure(rt: HostRuntime) -> Result<(), Fail> {
     let alloc = rt.alloc();
     let mut store = Store::fresh(alloc, 10)?;
-    assert_eq!(rt; register(alloc, &mut store, 1, b"CCO"), Ok(1));
-    assert_eq!(rt; store.compact(), Ok(Compact::More { left: 1 }));
-    assert_eq!(rt; store.compact(), Ok(Compact::More { left: 0 }));
-    assert_eq!(rt; store.compact(), Ok(Compact::Done { generation: 1 }));
+    let rows = [
+        (Call::Register(1, b"CCO"), Told::Commit(Ok(1))),
+        (Call::Compact, more(1)),
+        (Call::Compact, more(0)),
+        (Call::Compact, done(1)),
+    ];
+    follow(&rt, alloc, &mut store, &rows);
     let disks = store.into_disks();
     assert_eq!(rt; disks.b.bytes(), ONE.as_slice());
     assert_eq!(rt; version(alloc, disks), Ok(1));
@@ -289,17 +358,18 @@ fn three_steps_copy_one_structure(rt: HostRuntime) -> Result<(), Fail> {
 fn commits_between_steps_are_copied(rt: HostRuntime) -> Result<(), Fail> {
     let alloc = rt.alloc();
     let mut store = Store::fresh(alloc, 10)?;
-    assert_eq!(rt; register(alloc, &mut store, 1, b"CCO"), Ok(1));
-    assert_eq!(rt; store.compact(), Ok(Compact::More { left: 1 }));
-    assert_eq!(rt; register(alloc, &mut store, 2, b"C"), Ok(2));
-    assert_eq!(rt; store.commit(Change::Withdraw(1)), Ok(3));
-    let Ok(_) = store.prune() else {
-        return Err(Fail::new("not pruned"));
-    };
-    assert_eq!(rt; store.compact(), Ok(Compact::More { left: 0 }));
-    assert_eq!(rt; register(alloc, &mut store, 3, b"N"), Ok(4));
-    assert_eq!(rt; store.compact(), Ok(Compact::More { left: 0 }));
-    assert_eq!(rt; store.compact(), Ok(Compact::Done { generation: 1 }));
+    let rows = [
+        (Call::Register(1, b"CCO"), Told::Commit(Ok(1))),
+        (Call::Compact, more(1)),
+        (Call::Register(2, b"C"), Told::Commit(Ok(2))),
+        (Call::Withdraw(1), Told::Commit(Ok(3))),
+        (Call::Prune, Told::Pruned),
+        (Call::Compact, more(0)),
+        (Call::Register(3, b"N"), Told::Commit(Ok(4))),
+        (Call::Compact, more(0)),
+        (Call::Compact, done(1)),
+    ];
+    follow(&rt, alloc, &mut store, &rows);
     assert_eq!(rt; store.version(), 4);
     let disks = store.into_disks();
     assert_eq!(rt; disks.b.bytes().len(), 37 + 12 + 10 + 12 + 1);
@@ -310,31 +380,17 @@ fn commits_between_steps_are_copied(rt: HostRuntime) -> Result<(), Fail> {
 #[test]
 fn a_copy_that_fails_is_given_up(rt: HostRuntime) -> Result<(), Fail> {
     let alloc = rt.alloc();
-    let full = Disks {
-        a: MemDisk::of(alloc, EMPTY.to_vec(alloc)?)?,
-        b: MemDisk::of(alloc, COMPACTED.to_vec(alloc)?)?,
-    };
-    let Ok(store) = Store::load(alloc, full, 9) else {
-        return Err(Fail::new("not loaded"));
-    };
-    let mut store = store;
-    let fault = Err(CompactFault::DiskFault { doubt: false });
-    store.fail_once(1);
-    assert_eq!(rt; store.compact(), fault);
-    assert_eq!(rt; store.compact(), Ok(Compact::More { left: 2 }));
-    assert_eq!(rt; store.compact(), Ok(Compact::More { left: 0 }));
-    store.fail_once(1);
-    assert_eq!(rt; store.compact(), fault);
-    assert_eq!(rt; store.compact(), Ok(Compact::More { left: 2 }));
-    assert_eq!(rt; store.compact(), Ok(Compact::More { left: 0 }));
-    store.fail_once(4);
-    assert_eq!(rt;
-        store.compact(),
-        Err(CompactFault::DiskFault { doubt: true })
-    );
-    assert_eq!(rt; store.compact(), Ok(Compact::More { left: 2 }));
-    assert_eq!(rt; store.compact(), Ok(Compact::More { left: 0 }));
-    assert_eq!(rt; store.compact(), Ok(Compact::Done { generation: 2 }));
+    let mut store = loaded(alloc, &EMPTY, &COMPACTED)?;
+    for (failing, doubt) in [(1, false), (1, false), (4, true)] {
+        store.fail_once(failing);
+        let rows = [
+            (Call::Compact, failed(doubt)),
+            (Call::Compact, more(2)),
+            (Call::Compact, more(0)),
+        ];
+        follow(&rt, alloc, &mut store, &rows);
+    }
+    follow(&rt, alloc, &mut store, &[(Call::Compact, done(2))]);
     let disks = store.into_disks();
     assert_eq!(rt; disks.a.bytes().get(8), Some(&2));
     assert_eq!(rt; version(alloc, disks), Ok(4));
@@ -345,12 +401,7 @@ fn a_copy_that_fails_is_given_up(rt: HostRuntime) -> Result<(), Fail> {
 fn no_copy_starts_in_the_last_generation(rt: HostRuntime) -> Result<(), Fail> {
     let alloc = rt.alloc();
     let last = b"ZCHEMDB2\xff\xff\xff\xff\x05\0\0\0\0\0\0\0\0";
-    let a = MemDisk::of(alloc, EMPTY.to_vec(alloc)?)?;
-    let b = MemDisk::of(alloc, last.to_vec(alloc)?)?;
-    let Ok(store) = Store::load(alloc, Disks { a, b }, 9) else {
-        return Err(Fail::new("not loaded"));
-    };
-    let mut store = store;
+    let mut store = loaded(alloc, &EMPTY, last)?;
     assert_eq!(rt; store.compact(), Err(CompactFault::Last));
     Ok(())
 }

@@ -27,12 +27,24 @@ fn commit(
     Ok(())
 }
 
+// A watch of a pattern, with hits of none yet.
+fn watch(
+    alloc: Global,
+    watches: &mut Watches,
+    name: &[u8],
+    pattern: &[u8],
+    version: u32,
+) -> Result<(), Fail> {
+    watches.add(name, parse(alloc, pattern)?, version, Vec::new(alloc))?;
+    Ok(())
+}
+
 #[test]
 fn a_row_of_commits_with_both_lists_after_each(rt: HostRuntime) -> Result<(), Fail> {
     let alloc = rt.alloc();
     let mut watches = Watches::new(alloc);
-    watches.add(b"o", parse(alloc, b"O")?, 0, Vec::new(alloc))?;
-    watches.add(b"n", parse(alloc, b"N")?, 2, Vec::new(alloc))?;
+    watch(alloc, &mut watches, b"o", b"O", 0)?;
+    watch(alloc, &mut watches, b"n", b"N", 2)?;
     let rows: [(u32, u32, &[u8], &[u32], u32, &[u32]); 6] = [
         (1, 4, b"CCO", &[4], 2, &[]),
         (2, 2, b"CO", &[2, 4], 2, &[]),
@@ -43,11 +55,9 @@ fn a_row_of_commits_with_both_lists_after_each(rt: HostRuntime) -> Result<(), Fa
     ];
     for (version, id, text, oxygens, nitrogen_version, nitrogens) in rows {
         commit(alloc, &mut watches, version, id, text)?;
-        assert!(rt; watches.list(b"o") == Some((version, oxygens)), "{version}");
-        assert!(rt;
-            watches.list(b"n") == Some((nitrogen_version, nitrogens)),
-            "{version}"
-        );
+        let has_oxygens = watches.list(b"o") == Some((version, oxygens));
+        let has_nitrogens = watches.list(b"n") == Some((nitrogen_version, nitrogens));
+        assert!(rt; has_oxygens && has_nitrogens, "{version}");
     }
     Ok(())
 }
@@ -56,15 +66,18 @@ fn a_row_of_commits_with_both_lists_after_each(rt: HostRuntime) -> Result<(), Fa
 fn a_watch_that_missed_a_commit_is_filled_and_taken_out(rt: HostRuntime) -> Result<(), Fail> {
     let alloc = rt.alloc();
     let mut watches = Watches::new(alloc);
-    watches.add(b"o", parse(alloc, b"O")?, 0, Vec::new(alloc))?;
+    watch(alloc, &mut watches, b"o", b"O", 0)?;
     commit(alloc, &mut watches, 3, 5, b"CO")?;
-    assert!(rt; watches.list(b"o") == Some((0, &[])));
+    let has_missed = watches.list(b"o") == Some((0, &[]));
     if watches.pattern(b"o").is_some() {
         watches.fill(b"o", 3, Vec::new(alloc));
     }
-    assert!(rt; watches.fills(b"o") == Some(1));
-    assert!(rt; !watches.remove(b"n"));
-    assert!(rt; watches.remove(b"o"));
-    assert!(rt; watches.len() == 0);
+    let fills = watches.fills(b"o");
+    let are_taken = [watches.remove(b"n"), watches.remove(b"o")];
+    assert_eq!(rt;
+        (has_missed, fills, are_taken),
+        (true, Some(1), [false, true])
+    );
+    assert_eq!(rt; watches.len(), 0);
     Ok(())
 }

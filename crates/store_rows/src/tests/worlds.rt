@@ -33,9 +33,19 @@ fn version(world: &mut World, id: u32) -> Option<u32> {
     }
 }
 
+// What is left of a commit behind another one, where the disks stop after so many calls and are opened at one of their
+// images: its answer, and how many commits there are.
+fn stopped(alloc: Global, calls: u64, image: u32) -> Result<(Result<u32, CommitFault>, u32), Fail> {
+    let mut world = World::new(alloc, 10)?;
+    register(alloc, &mut world, 1, b"CCO")?;
+    world.stop_after(calls);
+    let answer = register(alloc, &mut world, 2, b"CC=O");
+    let (_, commits) = world.reopen(image)?;
+    Ok((answer, commits))
+}
+
 #[test]
 fn a_stop_leaves_the_commit_or_not(rt: HostRuntime) -> Result<(), Fail> {
-    let alloc = rt.alloc();
     let sure = Err(CommitFault::DiskFault { doubt: false });
     let doubt = Err(CommitFault::DiskFault { doubt: true });
     let rows: [(u64, Result<u32, CommitFault>, [u32; 4]); 5] = [
@@ -47,12 +57,11 @@ fn a_stop_leaves_the_commit_or_not(rt: HostRuntime) -> Result<(), Fail> {
     ];
     for (calls, answer, left) in rows {
         for image in 0..4 {
-            let mut world = World::new(alloc, 10)?;
-            assert_eq!(rt; register(alloc, &mut world, 1, b"CCO"), Ok(1));
-            world.stop_after(calls);
-            assert_eq!(rt; register(alloc, &mut world, 2, b"CC=O"), answer, "{calls}");
-            let (_, commits) = world.reopen(image)?;
-            assert_eq!(rt; commits, left[image as usize], "{calls} {image}");
+            assert_eq!(rt;
+                stopped(rt.alloc(), calls, image)?,
+                (answer, left[image as usize]),
+                "{calls} {image}"
+            );
         }
     }
     Ok(())
@@ -62,17 +71,17 @@ fn a_stop_leaves_the_commit_or_not(rt: HostRuntime) -> Result<(), Fail> {
 fn a_later_commit_ends_a_doubt(rt: HostRuntime) -> Result<(), Fail> {
     let alloc = rt.alloc();
     let mut world = World::new(alloc, 10)?;
-    assert_eq!(rt; register(alloc, &mut world, 1, b"CCO"), Ok(1));
+    register(alloc, &mut world, 1, b"CCO")?;
     world.fail_once(4);
-    assert_eq!(rt;
-        register(alloc, &mut world, 2, b"CC=O"),
-        Err(CommitFault::DiskFault { doubt: true })
-    );
-    assert_eq!(rt; register(alloc, &mut world, 3, b"C"), Ok(2));
+    let second = register(alloc, &mut world, 2, b"CC=O");
+    let third = register(alloc, &mut world, 3, b"C");
     let (mut world, commits) = world.reopen(0)?;
-    assert_eq!(rt; commits, 2);
-    assert_eq!(rt; version(&mut world, 2), None);
-    assert_eq!(rt; version(&mut world, 3), Some(2));
+    let versions = [version(&mut world, 2), version(&mut world, 3)];
+    assert_eq!(rt;
+        [second, third],
+        [Err(CommitFault::DiskFault { doubt: true }), Ok(2)]
+    );
+    assert_eq!(rt; (commits, versions), (2, [None, Some(2)]));
     Ok(())
 }
 
@@ -80,12 +89,15 @@ fn a_later_commit_ends_a_doubt(rt: HostRuntime) -> Result<(), Fail> {
 fn a_crash_leaves_no_pins(rt: HostRuntime) -> Result<(), Fail> {
     let alloc = rt.alloc();
     let mut world = World::new(alloc, 10)?;
-    assert!(rt; matches!(world.pin(), Ok(Some(_))));
-    assert_eq!(rt; pins(&mut world), Some(1));
+    let is_pinned = matches!(world.pin(), Ok(Some(_)));
+    let before = pins(&mut world);
     world.stop_after(0);
     let (mut world, commits) = world.reopen(1)?;
-    assert_eq!(rt; commits, 0);
-    assert_eq!(rt; pins(&mut world), Some(0));
+    let after = pins(&mut world);
+    assert_eq!(rt;
+        (is_pinned, commits, [before, after]),
+        (true, 0, [Some(1), Some(0)])
+    );
     assert_eq!(rt; register(alloc, &mut world, 1, b"C"), Ok(1));
     Ok(())
 }
