@@ -61,7 +61,7 @@ digits-join j (suc k) u n h =
 
 -- ---- order
 
-then-assoc : (o p q : Ordering) → ordering_then o (ordering_then p q) ≡ ordering_then (ordering_then o p) q
+pub then-assoc : (o p q : Ordering) → ordering_then o (ordering_then p q) ≡ ordering_then (ordering_then o p) q
 then-assoc Less p q = refl
 then-assoc Equal p q = refl
 then-assoc Greater p q = refl
@@ -80,16 +80,16 @@ slice_cmp-push (a ∷ xs) (b ∷ ys) x y h =
     ap (ordering_then (nat_cmp a b)) (slice_cmp-push xs ys x y (omega arith))
     ∙ then-assoc (nat_cmp a b) (slice_cmp nat_cmp xs ys) (nat_cmp x y)
 
-less : (m n : ℕ) → m < n → nat_cmp m n ≡ Less
+pub less : (m n : ℕ) → m < n → nat_cmp m n ≡ Less
 less m n h = sym (nat_cmp_is m n Less h)
 
-equal : (m n : ℕ) → m ≡ n → nat_cmp m n ≡ Equal
+pub equal : (m n : ℕ) → m ≡ n → nat_cmp m n ≡ Equal
 equal m n h = sym (nat_cmp_is m n Equal h)
 
-greater : (m n : ℕ) → n < m → nat_cmp m n ≡ Greater
+pub greater : (m n : ℕ) → n < m → nat_cmp m n ≡ Greater
 greater m n h = sym (nat_cmp_is m n Greater h)
 
-nat_cmp-parts : (m n : ℕ) → ordering_then (nat_cmp (m / 256) (n / 256)) (nat_cmp (m % 256) (n % 256)) ≡ nat_cmp m n
+pub nat_cmp-parts : (m n : ℕ) → ordering_then (nat_cmp (m / 256) (n / 256)) (nat_cmp (m % 256) (n % 256)) ≡ nat_cmp m n
 nat_cmp-parts m n =
     elim (cases_lt (m / 256) (n / 256)) [
       | inl l ↦ rw (less (m / 256) (n / 256) l) (sym (less m n (omega arith)))
@@ -121,10 +121,10 @@ slice_cmp-digits (suc k) m n hm hn =
 -- ---- hashes
 
 -- what bytes add to a hash
-sum_of_bytes : List ℕ → ℕ
+unfoldable pub sum_of_bytes : List ℕ → ℕ
 sum_of_bytes bytes = fold (λ h byte. 131 * h + byte) 0 bytes
 
-sum_from : (h : ℕ) (xs : List ℕ) → fold (λ s b. 131 * s + b) h xs ≡ h * 131 ^ length xs + sum_of_bytes xs
+pub sum_from : (h : ℕ) (xs : List ℕ) → fold (λ s b. 131 * s + b) h xs ≡ h * 131 ^ length xs + sum_of_bytes xs
 unfolding sum_of_bytes
 sum_from h [] = omega arith
 sum_from h (x ∷ xs) =
@@ -170,10 +170,10 @@ hash_two a b =
     ap (λ n. n % 65521) same ∙ sym (hash_from 7 (a ∷ b ∷ []) (omega arith))
 
 -- the hash with three more bytes in front, which weigh as much as the bytes behind make them weigh
-mod_same : (a b c d : ℕ) → a % 65521 ≡ b % 65521 → c % 65521 ≡ d % 65521 → (a + c) % 65521 ≡ (b + d) % 65521
+pub mod_same : (a b c d : ℕ) → a % 65521 ≡ b % 65521 → c % 65521 ≡ d % 65521 → (a + c) % 65521 ≡ (b + d) % 65521
 mod_same a b c d h k = omega arith
 
-times_rest : (m w : ℕ) → (m * (w % 65521)) % 65521 ≡ (m * w) % 65521
+pub times_rest : (m w : ℕ) → (m * (w % 65521)) % 65521 ≡ (m * w) % 65521
 times_rest m w =
     let e : m * (w % 65521) ≡ w % 65521 * m = grind arith in
     let f : m * w ≡ w * m = grind arith in

@@ -2,6 +2,7 @@ pub mod Options
 pub mod Truths
 pub mod Carries
 pub mod Digits
+pub mod Halves
 pub mod Strings
 pub mod Grown
 pub mod Ways

@@ -4,3 +4,4 @@ pub mod Prints
 pub mod Texts
 pub mod Squares
 pub mod Sheets
+pub mod Arms

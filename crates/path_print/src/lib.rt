@@ -4,6 +4,8 @@
 //! are ruled out without a search.
 #![tactic(auto)]
 
+mod arm;
+mod arms;
 mod implied;
 mod known;
 mod law;

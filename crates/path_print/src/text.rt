@@ -10,16 +10,16 @@ ghost use Rattle.path_print.specs.Texts.{of_label, longer_text};
 use std::marker::Model;
 
 /// The hash is a remainder by this prime.
-const PRIME: u64 = 65521;
+pub const PRIME: u64 = 65521;
 
 /// What a hash starts with.
-const SEED: u64 = 7;
+pub const SEED: u64 = 7;
 
 /// What the bytes so far are multiplied by, before the next byte is added.
-const FACTOR: u64 = 131;
+pub const FACTOR: u64 = 131;
 
 /// How much more a hash starts with behind three bytes of value 0.
-const SHIFTED: u64 = SEED * FACTOR * FACTOR * FACTOR - SEED;
+pub const SHIFTED: u64 = SEED * FACTOR * FACTOR * FACTOR - SEED;
 
 /// The string of a path in its two directions. Contracts see it as two lists of bytes.
 #[derive(Drop)]
@@ -107,9 +107,9 @@ fn before_growth(sum: u64, length: u64) -> u64
     if length > 8 { sum % PRIME } else { sum }
 }
 
-// The bit of a hash that is the remainder of this.
+/// The bit of a hash that is the remainder of this.
 #[inline(always)]
-fn bit_from(sum: u64) -> u16
+pub fn bit_from(sum: u64) -> u16
     ensures value { result ≡ sum % PRIME % 1024 }
     ensures small { result < 1024 }
 {
@@ -124,9 +124,9 @@ fn number_of(first: u8, second: u8, third: u8) -> u128
     65536 * u128::from(first) + 256 * u128::from(second) + u128::from(third)
 }
 
-// What three bytes add to a hash, where they come last.
+/// What three bytes add to a hash, where they come last.
 #[inline(always)]
-fn sum_of(first: u8, second: u8, third: u8) -> u64
+pub fn sum_of(first: u8, second: u8, third: u8) -> u64
     ensures { result ≡ 17161 * first + 131 * second + third }
 {
     FACTOR * FACTOR * u64::from(first) + FACTOR * u64::from(second) + u64::from(third)

@@ -1,0 +1,7 @@
+use Rattle.path_print.proofs.arm.bit_between.Goals as goal
+
+pub bit_through-requires-clause-first : goal.bit_through-requires-clause-first
+bit_through-requires-clause-first c = (c.args.behind, (search rules, c.requires.last))
+
+pub bit_through-requires-else-is_back_lesser-clause-first : goal.bit_through-requires-else-is_back_lesser-clause-first
+bit_through-requires-else-is_back_lesser-clause-first c = (c.args.before, c.requires.short, c.requires.first)

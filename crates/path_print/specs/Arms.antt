@@ -1,0 +1,107 @@
+-- Paths through an atom: two arms, each read inward to the atom or outward from it. For private clauses alone.
+use Rattle.std.specs.Prelude.{◌≡◌, ◌≢◌, ◌⊎◌, ℕ, zero, suc, ◌+◌, ◌*◌, ◌<◌, ◌≤◌, List, [], ◌∷◌, ◌++◌, length, fold, All, AllPairs, Contains, Some}
+use Rattle.path_print.specs.declared.arm.Half.{Half}
+use Rattle.path_print.specs.declared.arms.Arm.{Arm}
+use Rattle.path_print.specs.declared.arms.Middle.{Middle}
+use Rattle.path_print.specs.Path.{Family, exact, plain, View, bit_of, IsPath}
+use Rattle.path_print.specs.Texts.{last_of}
+
+-- an atom of an arm: its label, and the byte of the bond from it towards the middle
+abbrev pub Joint : Type 0
+Joint = (ℕ × ℕ) × ℕ
+
+-- the bytes of an arm, from its end to the middle
+abbrev pub inward : List Joint → List ℕ
+inward [] = []
+inward (j ∷ js) = j.0.0 ∷ j.0.1 ∷ j.1 ∷ inward js
+
+-- and from the middle to its end
+abbrev pub outward : List Joint → List ℕ
+outward [] = []
+outward (j ∷ js) = outward js ++ j.1 ∷ j.0.0 ∷ j.0.1 ∷ []
+
+-- the string of a path from the end of one arm to that of another, with this label in the middle
+abbrev pub through : List Joint → ℕ × ℕ → List Joint → List ℕ
+through js l ks = inward js ++ l.0 ∷ l.1 ∷ outward ks
+
+-- bytes as a number, the first one highest
+abbrev pub number_of : List ℕ → ℕ
+number_of bytes = fold (λ n byte. 256 * n + byte) 0 bytes
+
+-- what a hash that starts so is the remainder of
+abbrev pub sum_from : ℕ → List ℕ → ℕ
+sum_from start bytes = fold (λ n byte. 131 * n + byte) start bytes
+
+abbrev pub AreBytes : List Joint → Type 0
+AreBytes [] = Unit {0}
+AreBytes (j ∷ js) = (j.0.0 < 256) × (j.0.1 < 256) × (j.1 < 256) × AreBytes js
+
+-- what is kept of an arm
+pub record IsHalf (js : List Joint) (half : Half) : Type 0 where
+  pub bytes : AreBytes js
+  pub number : half.number ≡ number_of (inward js)
+  pub head : half.head ≡ sum_from 7 (inward js)
+  pub tail : half.tail ≡ sum_from 0 (outward js)
+
+-- an arm of that many atoms
+abbrev pub IsHalfOf : ℕ → Half → Type 0
+IsHalfOf n half = (js : List Joint) × (length js ≡ n) × IsHalf js half
+
+-- the atom after these towards the middle c
+abbrev pub next_to : ℕ → List ℕ → ℕ
+next_to c [] = c
+next_to c (x ∷ xs) = x
+
+-- the arm to c of these atoms, the farthest first
+abbrev pub AreJoints : View → ℕ → List ℕ → List Joint → Type 0
+AreJoints v c [] [] = Unit {0}
+AreJoints v c (x ∷ xs) [] = ⊥
+AreJoints v c [] (j ∷ js) = ⊥
+AreJoints v c (x ∷ xs) (j ∷ js) = (v.label x ≡ Some j.0) × (v.byte x (next_to c xs) ≡ Some j.1) × AreJoints v c xs js
+
+abbrev pub half_in : Arm → Family → Half
+half_in arm exact = arm.exact
+half_in arm plain = arm.plain
+
+-- the atoms of an arm of that many, the farthest first
+abbrev pub atoms_in : ℕ → Arm → List ℕ
+atoms_in zero arm = []
+atoms_in (suc zero) arm = arm.near ∷ []
+atoms_in (suc (suc n)) arm = arm.far ∷ arm.near ∷ []
+
+-- both atoms that an arm names are among the arm and the middle
+abbrev pub IsShaped : ℕ → ℕ → Arm → Type 0
+IsShaped zero c arm = (arm.near ≡ c) × (arm.far ≡ c)
+IsShaped (suc zero) c arm = arm.far ≡ arm.near
+IsShaped (suc (suc n)) c arm = Unit {0}
+
+-- an arm to c of that many atoms
+pub record IsArm (views : Family → View) (c n : ℕ) (arm : Arm) : Type 0 where
+  pub distinct : AllPairs ◌≢◌ (atoms_in n arm ++ c ∷ [])
+  pub shape : IsShaped n c arm
+  pub halves : (family : Family) → (js : List Joint) × AreJoints (views family) c (atoms_in n arm) js
+      × IsHalf js (half_in arm family)
+
+-- all arms to c of that many atoms
+pub record AreArms (views : Family → View) (c n : ℕ) (arms : List Arm) : Type 0 where
+  pub each : All (IsArm views c n) arms
+  pub all : (family : Family) (xs : List ℕ) (js : List Joint) → length xs ≡ n → AllPairs ◌≢◌ (xs ++ c ∷ [])
+      → AreJoints (views family) c xs js → (arm : Arm) × Contains arms arm × (atoms_in n arm ≡ xs)
+
+abbrev pub label_in : Middle → Family → ℕ × ℕ
+label_in middle exact = middle.exact
+label_in middle plain = middle.plain
+
+pub record IsMiddle (views : Family → View) (middle : Middle) : Type 0 where
+  pub labels : (family : Family) → (views family).label middle.atom ≡ Some (label_in middle family)
+
+-- the bit of a path of these atoms
+abbrev pub IsBitAt : (Family → View) → List ℕ → ℕ → Type 0
+IsBitAt views atoms bit = (family : Family) × (there back : List ℕ) × IsPath (views family) atoms there back
+    × (bit ≡ bit_of there back)
+
+-- the bit of a path through c, with so many atoms before it and so many behind it. Where there is one more before it,
+-- the one next to it is lower.
+abbrev pub IsBitThrough : (Family → View) → ℕ → ℕ → ℕ → ℕ → Type 0
+IsBitThrough views c before behind bit = (xs ys : List ℕ) × (length xs ≡ before) × (length ys ≡ behind)
+    × ((before ≡ behind) ⊎ (last_of xs < c)) × IsBitAt views (xs ++ c ∷ ys) bit

@@ -1,0 +1,132 @@
+//! An arm of a path in one family of labels: the atoms between an end of the path and an atom in its middle.
+//!
+//! A path is two arms with an atom between. Its hash is found from what is kept of each arm, and which of its two
+//! strings is the lesser from the numbers of the arms: so nothing is worked out again for the paths that share an arm.
+ghost use Rattle.std.specs.Prelude.{◌≡◌, ◌⊎◌, ◌+◌, ◌*◌, ◌%◌, ◌^◌, ◌<◌, ◌≤◌, ℕ, List, [], ◌∷◌, length, IsTrue};
+ghost use Rattle.path_print.specs.Path.{hash_of, lesser, bit_of};
+ghost use Rattle.path_print.specs.Arms.{Joint, IsHalf, IsHalfOf, through};
+
+use crate::text::{FACTOR, PRIME, SEED, SHIFTED, bit_from, sum_of};
+
+// What a sum is multiplied by, before three bytes are added.
+const CUBE: u64 = FACTOR * FACTOR * FACTOR;
+
+/// What is kept of an arm of up to two atoms.
+#[derive(Clone, Copy)]
+pub struct Half {
+    /// Its bytes inward, as a number, the first one highest.
+    pub number: u64,
+    /// The hash of its bytes inward is the remainder of this.
+    pub head: u64,
+    /// What its bytes outward add to a hash.
+    pub tail: u64,
+}
+
+impl Half {
+    /// The arm of no atom.
+    pub const NONE: Half = Half {
+        number: 0,
+        head: SEED,
+        tail: 0,
+    };
+
+    /// The arm of one atom, with this label, by a bond with this byte.
+    #[inline(always)]
+    pub fn of(label: (u8, u8), byte: u8) -> Half
+        ensures { IsHalf ((label, byte) ∷ []) result }
+    {
+        Half {
+            number: number_of(label, byte),
+            head: SEED * CUBE + sum_of(label.0, label.1, byte),
+            tail: sum_of(byte, label.0, label.1),
+        }
+    }
+
+    /// The arm of one atom, with one more at its end.
+    #[inline(always)]
+    pub fn longer(&self, label: (u8, u8), byte: u8) -> Half
+        requires { IsHalfOf 1 self.now }
+        ensures { (j : Joint) → IsHalf (j ∷ []) self.now → IsHalf ((label, byte) ∷ j ∷ []) result }
+    {
+        Half {
+            number: number_of(label, byte) * 16777216 + self.number,
+            head: (SHIFTED + sum_of(label.0, label.1, byte)) * CUBE + self.head,
+            tail: self.tail * CUBE + sum_of(byte, label.0, label.1),
+        }
+    }
+}
+
+/// The bit of the path of two arms with an atom of this label between. So many atoms are before it and behind it.
+#[inline(always)]
+pub fn bit_between(first: &Half, label: (u8, u8), last: &Half, before: usize, behind: usize) -> u16
+    requires first { IsHalfOf before first.now }
+    requires last { IsHalfOf behind last.now }
+    requires short { before ≤ 2 }
+    requires counted { (before ≡ behind) ⊎ (before ≡ behind + 1) }
+    ensures value { (js ks : List Joint) → length js ≡ before → length ks ≡ behind → IsHalf js first.now
+        → IsHalf ks last.now → result ≡ bit_of (through js label ks) (through ks label js) }
+    ensures small { result < 1024 }
+{
+    if is_back_lesser(first, label, last, before, behind) {
+        bit_through(last, label, first, before)
+    } else {
+        bit_through(first, label, last, behind)
+    }
+}
+
+// Whether the string from the last arm to the first is to be taken. Where both are the same, either is.
+#[inline(always)]
+fn is_back_lesser(first: &Half, label: (u8, u8), last: &Half, before: usize, behind: usize) -> bool
+    requires first { IsHalfOf before first.now }
+    requires last { IsHalfOf behind last.now }
+    requires short { before ≤ 2 }
+    requires counted { (before ≡ behind) ⊎ (before ≡ behind + 1) }
+    ensures yes { IsTrue result → (js ks : List Joint) → length js ≡ before → length ks ≡ behind → IsHalf js first.now
+        → IsHalf ks last.now → lesser (through js label ks) (through ks label js) ≡ through ks label js }
+    ensures no { (IsTrue result → ⊥) → (js ks : List Joint) → length js ≡ before → length ks ≡ behind
+        → IsHalf js first.now → IsHalf ks last.now
+        → lesser (through js label ks) (through ks label js) ≡ through js label ks }
+{
+    if before == behind {
+        last.number < first.number
+    } else {
+        last.number * 65536 + 256 * u64::from(label.0) + u64::from(label.1) < first.number / 256
+    }
+}
+
+// The bit of the string from the first arm to the last, which has so many atoms.
+#[inline(always)]
+fn bit_through(first: &Half, label: (u8, u8), last: &Half, behind: usize) -> u16
+    requires first { (n : ℕ) × (n ≤ 2) × IsHalfOf n first.now }
+    requires last { IsHalfOf behind last.now }
+    requires short { behind ≤ 2 }
+    ensures value { (js ks : List Joint) → IsHalf js first.now → length ks ≡ behind → IsHalf ks last.now
+        → result ≡ hash_of (through js label ks) % 1024 }
+    ensures small { result < 1024 }
+{
+    let weight = weight_of(behind);
+    let middle = sum_of(0, label.0, label.1) * weight;
+    bit_from(first.head * (weight * FACTOR * FACTOR % PRIME) + middle + last.tail)
+}
+
+// What the bytes before an arm of so many atoms are multiplied by, in a hash.
+#[inline(always)]
+fn weight_of(atoms: usize) -> u64
+    requires { atoms ≤ 2 }
+    ensures value { result ≡ 131 ^ (3 * atoms) % 65521 }
+    ensures small { result < 65521 }
+{
+    match atoms {
+        0 => 1,
+        1 => CUBE % PRIME,
+        _ => CUBE * CUBE % PRIME,
+    }
+}
+
+// A label and a byte as a number.
+#[inline(always)]
+fn number_of(label: (u8, u8), byte: u8) -> u64
+    ensures { result ≡ 65536 * label.0 + 256 * label.1 + byte }
+{
+    65536 * u64::from(label.0) + 256 * u64::from(label.1) + u64::from(byte)
+}
