@@ -10,3 +10,5 @@ pub mod Molecules
 pub mod Sheets
 pub mod Twins
 pub mod Neighbours
+pub mod Joints
+pub mod Paths

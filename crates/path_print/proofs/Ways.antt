@@ -418,7 +418,7 @@ below_more views i a b c first second = record {
 -- ---- the two ends of a path
 
 -- the bit is the same from either end
-bit-turn : (there back : List ℕ) → bit_of there back ≡ bit_of back there
+pub bit-turn : (there back : List ℕ) → bit_of there back ≡ bit_of back there
 bit-turn there back = at (slice_cmp nat_cmp back there) (slice_cmp nat_cmp there back)
     (nat_list_cmp_total.antisymm there back) (same_lists there back)
   where
@@ -433,7 +433,7 @@ bit-turn there back = at (slice_cmp nat_cmp back there) (slice_cmp nat_cmp there
     at Greater p e same = ap (λ q. hash_of (cond (is_lt q) there back) % 1024) (sym e)
 
 -- a path walked from its other end
-path_back : (v : View) (atoms there back : List ℕ) → IsPath v atoms there back → IsPath v (reverse atoms) back there
+pub path_back : (v : View) (atoms there back : List ℕ) → IsPath v atoms there back → IsPath v (reverse atoms) back there
 path_back v atoms there back path = record {
   short = rw length-reverse path.short;
   distinct = distinct_turned atoms path.distinct;

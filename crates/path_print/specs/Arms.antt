@@ -1,8 +1,11 @@
 -- Paths through an atom: two arms, each read inward to the atom or outward from it. For private clauses alone.
-use Rattle.std.specs.Prelude.{◌≡◌, ◌≢◌, ◌⊎◌, ℕ, zero, suc, ◌+◌, ◌*◌, ◌<◌, ◌≤◌, List, [], ◌∷◌, ◌++◌, length, fold, All, AllPairs, Contains, Some}
+use Rattle.std.specs.Prelude.{◌≡◌, ◌≢◌, ◌⊎◌, ℕ, zero, suc, ◌+◌, ◌*◌, ◌<◌, ◌≤◌, List, [], ◌∷◌, ◌++◌, length, reverse, fold, All, AllPairs, Contains, Some}
 use Rattle.path_print.specs.declared.arm.Half.{Half}
 use Rattle.path_print.specs.declared.arms.Arm.{Arm}
+use Rattle.path_print.specs.declared.arms.Labels.{Labels}
 use Rattle.path_print.specs.declared.arms.Middle.{Middle}
+use Rattle.chem_core.specs.Molecule.{Molecule, IsMolecule}
+use Rattle.path_print.specs.Prints.{molecule_view}
 use Rattle.path_print.specs.Path.{Family, exact, plain, View, bit_of, IsPath}
 use Rattle.path_print.specs.Texts.{last_of}
 
@@ -88,12 +91,40 @@ pub record AreArms (views : Family → View) (c n : ℕ) (arms : List Arm) : Typ
   pub all : (family : Family) (xs : List ℕ) (js : List Joint) → length xs ≡ n → AllPairs ◌≢◌ (xs ++ c ∷ [])
       → AreJoints (views family) c xs js → (arm : Arm) × Contains arms arm × (atoms_in n arm ≡ xs)
 
-abbrev pub label_in : Middle → Family → ℕ × ℕ
-label_in middle exact = middle.exact
-label_in middle plain = middle.plain
+abbrev pub label_in : Labels → Family → ℕ × ℕ
+label_in labels exact = labels.exact
+label_in labels plain = labels.plain
 
-pub record IsMiddle (views : Family → View) (middle : Middle) : Type 0 where
-  pub labels : (family : Family) → (views family).label middle.atom ≡ Some (label_in middle family)
+-- the labels of an atom
+abbrev pub AreLabels : (Family → View) → ℕ → Labels → Type 0
+AreLabels views a labels = (family : Family) → (views family).label a ≡ Some (label_in labels family)
+
+-- the molecule of a middle, as its paths see it
+abbrev pub views_around : Middle → Family → View
+views_around middle = molecule_view middle.mol.now
+
+-- an atom of its molecule, with its labels
+pub record IsMiddle (middle : Middle) : Type 0 where
+  pub within : middle.atom < length middle.mol.now.atoms
+  pub valid : IsMolecule middle.mol.now
+  pub labels : AreLabels (views_around middle) middle.atom middle.labels
+
+-- the atoms of the path from the end of one arm to that of another
+abbrev pub path_of : ℕ → Arm → ℕ → ℕ → Arm → List ℕ
+path_of before first c behind last = atoms_in before first ++ c ∷ reverse (atoms_in behind last)
+
+-- no atom that one arm names is named by the other
+abbrev pub AreApart : Arm → Arm → Type 0
+AreApart first last = (first.near ≢ last.near) × (first.near ≢ last.far) × (first.far ≢ last.near)
+    × (first.far ≢ last.far)
+
+-- as many atoms before as behind, or one more
+abbrev pub IsBalanced : ℕ → ℕ → Type 0
+IsBalanced before behind = (before ≡ behind) ⊎ (before ≡ behind + 1)
+
+-- an arm of these of which that is a bit
+abbrev pub IsBitOfSome : (Arm → ℕ → Type 0) → List Arm → ℕ → Type 0
+IsBitOfSome IsBit arms bit = (arm : Arm) × Contains arms arm × IsBit arm bit
 
 -- the bit of a path of these atoms
 abbrev pub IsBitAt : (Family → View) → List ℕ → ℕ → Type 0
@@ -105,3 +136,12 @@ IsBitAt views atoms bit = (family : Family) × (there back : List ℕ) × IsPath
 abbrev pub IsBitThrough : (Family → View) → ℕ → ℕ → ℕ → ℕ → Type 0
 IsBitThrough views c before behind bit = (xs ys : List ℕ) × (length xs ≡ before) × (length ys ≡ behind)
     × ((before ≡ behind) ⊎ (last_of xs < c)) × IsBitAt views (xs ++ c ∷ ys) bit
+
+-- the bit of a path of which c is the middle, or the higher of the two atoms in the middle
+abbrev pub IsBitAround : (Family → View) → ℕ → ℕ → Type 0
+IsBitAround views c bit = (before behind : ℕ) × (before ≤ 2) × IsBalanced before behind
+    × IsBitThrough views c before behind bit
+
+-- the bit of a path of which one of the first n atoms is the middle
+abbrev pub IsBitBelow : (Family → View) → ℕ → ℕ → Type 0
+IsBitBelow views n bit = (c : ℕ) × (c < n) × IsBitAround views c bit

@@ -1,7 +1,18 @@
-//! The arms around an atom.
-use crate::arm::Half;
+//! The arms around an atom: those of one atom lead to its neighbours, those of two go on to theirs.
+ghost use Rattle.std.specs.Prelude.{◌≡◌, ◌≢◌, ◌+◌, ◌*◌, ◌<◌, ◌≤◌, [], ◌∷◌, ◌++◌, ℕ, All, AllPairs, Contains, List, Some, length, take};
+ghost use Rattle.chem_core.specs.Graph.{JoinsAt};
+ghost use Rattle.chem_core.specs.Molecule.{IsMolecule, ends_of};
+ghost use Rattle.path_print.specs.Path.{Family};
+ghost use Rattle.path_print.specs.Prints.{kind_byte, molecule_view};
+ghost use Rattle.path_print.specs.Arms.{Joint, AreLabels, IsMiddle, IsArm, AreArms, AreJoints, atoms_in, views_around};
 
-/// An arm in both families of labels: its atom next to the middle, and the one at its end.
+use crate::arm::Half;
+use chem_core::{BondKind, MOST_NEIGHBOURS, Mol};
+
+/// The most arms of two atoms.
+pub const MOST_TWOS: usize = MOST_NEIGHBOURS * MOST_NEIGHBOURS;
+
+/// An arm in both families of labels, with its atom next to the middle and the one at its end.
 #[derive(Clone, Copy)]
 pub struct Arm {
     pub near: u16,
@@ -10,10 +21,184 @@ pub struct Arm {
     pub plain: Half,
 }
 
-/// The atom in the middle of paths, with its label in each family.
+/// The label of an atom in each family.
 #[derive(Clone, Copy)]
-pub struct Middle {
-    pub atom: u16,
+pub struct Labels {
     pub exact: (u8, u8),
     pub plain: (u8, u8),
+}
+
+/// The atom in the middle of paths.
+#[derive(Clone, Copy)]
+pub struct Middle<'a> {
+    pub mol: &'a Mol,
+    pub atom: u16,
+    pub labels: Labels,
+}
+
+impl<'a> Middle<'a> {
+    /// An atom of a molecule.
+    #[inline(always)]
+    pub fn of(mol: &'a Mol, atom: u16) -> Middle<'a>
+        requires { atom < length mol.now.atoms }
+        ensures middle { IsMiddle result }
+        ensures mol { result.mol.now ≡ mol.now }
+        ensures atom { result.atom ≡ atom }
+    {
+        Middle {
+            mol,
+            atom,
+            labels: labels_of(mol, atom),
+        }
+    }
+}
+
+impl Arm {
+    /// The arm of no atom to an atom.
+    #[inline(always)]
+    pub fn none(middle: &Middle) -> Arm
+        ensures { IsArm (views_around middle.now) middle.now.atom 0 result }
+    {
+        Arm {
+            near: middle.atom,
+            far: middle.atom,
+            exact: Half::NONE,
+            plain: Half::NONE,
+        }
+    }
+
+    // The arm to an atom of one neighbour.
+    #[inline(always)]
+    fn of(middle: &Middle, to: u16, bond: u16) -> Arm
+        requires middle { IsMiddle middle.now }
+        requires joined { JoinsAt (ends_of middle.now.mol.now) bond middle.now.atom to }
+        ensures arm { IsArm (views_around middle.now) middle.now.atom 1 result }
+        ensures near { result.near ≡ to }
+    {
+        let byte = byte_at(middle.mol, bond);
+        let labels = labels_of(middle.mol, to);
+        Arm {
+            near: to,
+            far: to,
+            exact: Half::of(labels.exact, byte),
+            plain: Half::of(labels.plain, byte),
+        }
+    }
+
+    // The arm that goes on to a neighbour of its atom.
+    #[inline(always)]
+    fn longer(&self, middle: &Middle, to: u16, bond: u16) -> Arm
+        requires middle { IsMiddle middle.now }
+        requires arm { IsArm (views_around middle.now) middle.now.atom 1 self.now }
+        requires joined { JoinsAt (ends_of middle.now.mol.now) bond self.now.near to }
+        requires new { to ≢ middle.now.atom }
+        ensures arm { IsArm (views_around middle.now) middle.now.atom 2 result }
+        ensures near { result.near ≡ self.now.near }
+        ensures far { result.far ≡ to }
+    {
+        let byte = byte_at(middle.mol, bond);
+        let labels = labels_of(middle.mol, to);
+        Arm {
+            near: self.near,
+            far: to,
+            exact: self.exact.longer(labels.exact, byte),
+            plain: self.plain.longer(labels.plain, byte),
+        }
+    }
+}
+
+/// Writes the arms of one atom in front. Returns how many there are.
+#[inline(always)]
+pub fn gather_ones(ones: &mut [Arm], middle: &Middle) -> usize
+    requires middle { IsMiddle middle.now }
+    requires room { length ones.old ≡ MOST_NEIGHBOURS }
+    ensures arms { AreArms (views_around middle.now) middle.now.atom 1 (take result ones.new) }
+    ensures count { result ≤ MOST_NEIGHBOURS }
+    ensures room { length ones.new ≡ MOST_NEIGHBOURS }
+{
+    let mut count = 0;
+    for (to, bond) in middle.mol.neighbours(middle.atom) {
+        ones[count] = Arm::of(middle, *to, *bond);
+        count += 1;
+    }
+    count
+}
+
+/// Writes the arms of two atoms in front. Returns how many there are.
+#[inline(always)]
+pub fn gather_twos(twos: &mut [Arm], ones: &[Arm], middle: &Middle) -> usize
+    requires middle { IsMiddle middle.now }
+    requires room { length twos.old ≡ MOST_TWOS }
+    requires ones { AreArms (views_around middle.now) middle.now.atom 1 ones.now }
+    requires few { length ones.now ≤ MOST_NEIGHBOURS }
+    ensures arms { AreArms (views_around middle.now) middle.now.atom 2 (take result twos.new) }
+    ensures count { result ≤ MOST_TWOS }
+    ensures room { length twos.new ≡ MOST_TWOS }
+{
+    let mut count = 0;
+    for one in ones {
+        count = gather_behind(twos, count, one, middle);
+    }
+    count
+}
+
+// Writes the arms of two atoms that go on from one behind those that are there. Returns how many there are then.
+#[inline(always)]
+fn gather_behind(twos: &mut [Arm], start: usize, one: &Arm, middle: &Middle) -> usize
+    requires middle { IsMiddle middle.now }
+    requires room { start + MOST_NEIGHBOURS ≤ length twos.old }
+    requires one { IsArm (views_around middle.now) middle.now.atom 1 one.now }
+    ensures each { All (IsArm (views_around middle.now) middle.now.atom 2) (take start twos.old)
+        → All (IsArm (views_around middle.now) middle.now.atom 2) (take result twos.new) }
+    ensures kept { (arm : _) → Contains (take start twos.old) arm → Contains (take result twos.new) arm }
+    ensures all { (family : Family) (z : ℕ) (js : List Joint) → AllPairs ◌≢◌ (z ∷ one.now.near ∷ middle.now.atom ∷ [])
+        → AreJoints (views_around middle.now family) middle.now.atom (z ∷ one.now.near ∷ []) js
+        → (arm : _) × Contains (take result twos.new) arm × (atoms_in 2 arm ≡ z ∷ one.now.near ∷ []) }
+    ensures count { result ≤ start + MOST_NEIGHBOURS }
+    ensures room { length twos.new ≡ length twos.old }
+{
+    let mut count = start;
+    for (to, bond) in middle.mol.neighbours(one.near) {
+        if *to != middle.atom {
+            twos[count] = one.longer(middle, *to, *bond);
+            count += 1;
+        }
+    }
+    count
+}
+
+// The labels of an atom.
+#[inline(always)]
+fn labels_of(mol: &Mol, atom: u16) -> Labels
+    requires { atom < length mol.now.atoms }
+    ensures labels { AreLabels (molecule_view mol.now) atom result }
+    ensures valid { IsMolecule mol.now }
+{
+    let atom = &mol.atoms()[usize::from(atom)];
+    Labels {
+        exact: (atom.number, u8::from(atom.aromatic)),
+        plain: (atom.number, 2),
+    }
+}
+
+// The byte of a bond.
+#[inline(always)]
+fn byte_at(mol: &Mol, bond: u16) -> u8
+    requires { bond < length mol.now.bonds }
+    ensures { (family : Family) (x y : ℕ) → JoinsAt (ends_of mol.now) bond x y
+        → (molecule_view mol.now family).byte x y ≡ Some result }
+{
+    byte_of(mol.bonds()[usize::from(bond)].kind)
+}
+
+#[inline(always)]
+fn byte_of(kind: BondKind) -> u8
+    ensures { result ≡ kind_byte kind }
+{
+    match kind {
+        BondKind::Single | BondKind::Aromatic => 1,
+        BondKind::Double => 2,
+        BondKind::Triple => 3,
+        BondKind::Quad => 4,
+    }
 }
