@@ -54,6 +54,14 @@ impl<'a> Middle<'a> {
 }
 
 impl Arm {
+    /// What fills a row before arms are written into it.
+    pub const BLANK: Arm = Arm {
+        near: 0,
+        far: 0,
+        exact: Half::NONE,
+        plain: Half::NONE,
+    };
+
     /// The arm of no atom to an atom.
     #[inline(always)]
     pub fn none(middle: &Middle) -> Arm

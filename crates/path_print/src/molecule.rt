@@ -1,154 +1,146 @@
 //! The print of a molecule.
-ghost use Rattle.std.specs.Prelude.{All, ◌≡◌, ◌<◌, ◌+◌, ◌∷◌, ℕ, length, reverse, Some, IfSome, IfNone, IsTrue};
-ghost use Rattle.chem_core.specs.Graph.{JoinsAt};
-ghost use Rattle.chem_core.specs.Molecule.{ends_of};
-ghost use Rattle.path_print.specs.Prints.{known_of, kind_byte, molecule_view, IsPrint};
-ghost use Rattle.path_print.specs.Path.{Family, label_of};
-ghost use Rattle.path_print.specs.Texts.{IsOn, IsOneLonger, IsBitFrom, IsMarked, IsSpent, NoneFrom, SetsBits, last_of};
+//!
+//! Each path is found at the atom in its middle; of two there at the higher. It is two arms to that atom, as long as
+//! each other or nearly so.
+ghost use Rattle.std.specs.Prelude.{◌≡◌, ◌≢◌, ◌↔◌, ◌<◌, ◌≤◌, ◌+◌, All, AllPairs, IsTrue, length};
+ghost use Rattle.path_print.specs.Prints.{IsPrint};
+ghost use Rattle.path_print.specs.Texts.{SetsBits};
+ghost use Rattle.path_print.specs.Arms.{IsMiddle, IsArm, AreArms, AreApart, IsBalanced, IsBitOfSome, IsBitAt, IsBitThrough, IsBitAround, path_of, views_around};
 
-use crate::known::Known;
-use crate::path::{MOST, More, Path};
-use crate::step::{Step, is_again};
-use chem_core::{Atom, BondKind, Mol, Print};
+use crate::arm::bit_between;
+use crate::arms::{Arm, MOST_TWOS, Middle, gather_ones, gather_twos};
+use chem_core::{MOST_NEIGHBOURS, Mol, Print};
 
 /// The bits of all paths of the molecule.
 pub fn print(mol: &Mol) -> Print
     ensures { IsPrint mol.now result }
 {
     let mut print = Print::empty();
-    for (place, atom) in mol.atoms().iter().enumerate() {
-        <More<More<More<Last>>>>::walk(mol, &Path::start(place as u16, known(atom)), &mut print);
+    let mut ones = [Arm::BLANK; MOST_NEIGHBOURS];
+    let mut twos = [Arm::BLANK; MOST_TWOS];
+    for place in 0..mol.atoms().len() {
+        let middle = Middle::of(mol, place as u16);
+        mark_around(&middle, &mut ones, &mut twos, &mut print);
     }
     print
 }
 
-// The walk on from a path, one for each number of atoms that may still follow. Each has the next one in its loop, so
-// that the compiler keeps a path under way in registers.
-trait Walk {
-    // how many atoms may follow
-    ghost left: { ℕ };
-
-    // Sets the bits of all paths that grow from this one.
-    fn walk(mol: &Mol, path: &Path, print: &mut Print)
-        requires path { IsOn (molecule_view mol.now) path.now }
-        requires atoms { All (λ a. a < length mol.now.atoms) path.now.atoms }
-        requires left { length path.now.atoms + left ≡ MOST }
-        ensures { SetsBits (IsBitFrom (molecule_view mol.now) path.now.atoms) print.old print.new };
-}
-
-// One atom may follow. Of those that give the path the same texts one is enough.
-struct Last;
-
-impl Walk for Last {
-    ghost left = { 1 };
-
-    #[inline(always)]
-    fn walk(mol: &Mol, path: &Path, print: &mut Print) {
-        path.mark(print);
-        if path.is_spent() {
-            return;
-        }
-        let mut marked = None;
-        for (to, bond) in mol.neighbours(path.last()) {
-            marked = mark_end(mol, path, *to, *bond, marked, print);
-        }
-    }
-}
-
-impl<W: Walk> Walk for More<W> {
-    ghost left = { W.left + 1 };
-
-    #[inline(always)]
-    fn walk(mol: &Mol, path: &Path, print: &mut Print) {
-        path.mark(print);
-        if path.is_spent() {
-            return;
-        }
-        for (to, bond) in mol.neighbours(path.last()) {
-            if let Some(longer) = path_to(mol, path, *to, *bond) {
-                W::walk(mol, &longer, print);
-            }
-        }
-    }
-}
-
-// Sets the bits of the path that goes on to a neighbour by the bond between, unless the step that was marked last gave
-// the same. Returns the step that is marked now.
+// Sets the bits of the paths around an atom. Its arms are written into the two rows.
 #[inline(always)]
-fn mark_end(
-    mol: &Mol,
-    path: &Path,
-    to: u16,
-    bond: u16,
-    marked: Option<Step>,
-    print: &mut Print,
-) -> Option<Step>
-    requires path { IsOn (molecule_view mol.now) path.now }
-    requires room { length path.now.atoms + 1 ≡ MOST }
-    requires counted { IsSpent path.now.atoms → ⊥ }
-    requires joined { JoinsAt (ends_of mol.now) bond (last_of path.now.atoms) to }
-    requires marked { IfSome marked (λ s. IsMarked path.now s.byte s.known print.old) }
-    ensures bits { SetsBits (IsBitFrom (molecule_view mol.now) (to ∷ reverse path.now.atoms)) print.old print.new }
-    ensures marked { IfSome result (λ s. IsMarked path.now s.byte s.known print.new) }
+fn mark_around(middle: &Middle, ones: &mut [Arm], twos: &mut [Arm], print: &mut Print)
+    requires middle { IsMiddle middle.now }
+    requires ones { length ones.old ≡ MOST_NEIGHBOURS }
+    requires twos { length twos.old ≡ MOST_TWOS }
+    ensures bits { SetsBits (IsBitAround (views_around middle.now) middle.now.atom) print.old print.new }
+    ensures ones { length ones.new ≡ MOST_NEIGHBOURS }
+    ensures twos { length twos.new ≡ MOST_TWOS }
 {
-    let step = step_to(mol, path, to, bond);
-    if is_again(marked, step) {
-        return marked;
+    let count = gather_ones(ones, middle);
+    let many = gather_twos(twos, &ones[..count], middle);
+    mark_through(middle, &ones[..count], &twos[..many], print);
+}
+
+// Sets the bits of the paths around an atom with these arms.
+#[inline(always)]
+fn mark_through(middle: &Middle, ones: &[Arm], twos: &[Arm], print: &mut Print)
+    requires middle { IsMiddle middle.now }
+    requires ones { AreArms (views_around middle.now) middle.now.atom 1 ones.now }
+    requires twos { AreArms (views_around middle.now) middle.now.atom 2 twos.now }
+    ensures { SetsBits (IsBitAround (views_around middle.now) middle.now.atom) print.old print.new }
+{
+    let none = [Arm::none(middle)];
+    mark_path(&none[0], middle, &none[0], 0, 0, print);
+    mark_odd(ones, middle, &none, 0, print);
+    mark_even(ones, middle, 1, print);
+    mark_odd(twos, middle, ones, 1, print);
+    mark_even(twos, middle, 2, print);
+}
+
+// Sets the bits of the paths with as many atoms before the middle as behind it. Of the two directions of each path one
+// is enough.
+#[inline(always)]
+fn mark_even(row: &[Arm], middle: &Middle, atoms: usize, print: &mut Print)
+    requires middle { IsMiddle middle.now }
+    requires row { AreArms (views_around middle.now) middle.now.atom atoms row.now }
+    requires some { 1 ≤ atoms }
+    requires few { atoms ≤ 2 }
+    ensures { SetsBits (IsBitThrough (views_around middle.now) middle.now.atom atoms atoms) print.old print.new }
+{
+    for place in 0..row.len() {
+        mark_from(&row[place], middle, &row[..place], atoms, atoms, print);
     }
-    match path.longer(to, step.byte, step.known) {
-        Some(longer) => {
-            longer.mark(print);
-            Some(step)
+}
+
+// Sets the bits of the paths with one atom more before the middle than behind it, if the one next to it is lower.
+#[inline(always)]
+fn mark_odd(longer: &[Arm], middle: &Middle, row: &[Arm], behind: usize, print: &mut Print)
+    requires middle { IsMiddle middle.now }
+    requires longer { AreArms (views_around middle.now) middle.now.atom (behind + 1) longer.now }
+    requires row { AreArms (views_around middle.now) middle.now.atom behind row.now }
+    requires few { behind ≤ 1 }
+    ensures { SetsBits (IsBitThrough (views_around middle.now) middle.now.atom (behind + 1) behind) print.old print.new }
+{
+    for first in longer {
+        if first.near < middle.atom {
+            mark_from(first, middle, row, behind + 1, behind, print);
         }
-        None => marked,
     }
 }
 
-// The path that goes on to a neighbour by the bond between. `None` where no path does.
+// Sets the bits of the paths from the end of an arm to that of one of a row.
 #[inline(always)]
-fn path_to(mol: &Mol, path: &Path, to: u16, bond: u16) -> Option<Path>
-    requires path { IsOn (molecule_view mol.now) path.now }
-    requires joined { JoinsAt (ends_of mol.now) bond (last_of path.now.atoms) to }
-    ensures some { IfSome result (IsOneLonger (molecule_view mol.now) path.now to) }
-    ensures none { IfNone result (NoneFrom (molecule_view mol.now) (to ∷ reverse path.now.atoms)) }
+fn mark_from(first: &Arm, middle: &Middle, row: &[Arm], before: usize, behind: usize, print: &mut Print)
+    requires middle { IsMiddle middle.now }
+    requires first { IsArm (views_around middle.now) middle.now.atom before first.now }
+    requires row { All (IsArm (views_around middle.now) middle.now.atom behind) row.now }
+    requires some { 1 ≤ before }
+    requires few { before ≤ 2 }
+    requires balanced { IsBalanced before behind }
+    ensures { SetsBits (IsBitOfSome
+        (λ last. IsBitAt (views_around middle.now) (path_of before first.now middle.now.atom behind last)) row.now)
+        print.old print.new }
 {
-    let step = step_to(mol, path, to, bond);
-    path.longer(to, step.byte, step.known)
-}
-
-// The step to a neighbour by the bond between.
-#[inline(always)]
-fn step_to(mol: &Mol, path: &Path, to: u16, bond: u16) -> Step
-    requires joined { JoinsAt (ends_of mol.now) bond (last_of path.now.atoms) to }
-    ensures byte { (family : Family)
-        → (molecule_view mol.now family).byte (last_of path.now.atoms) to ≡ Some result.byte }
-    ensures label { (family : Family)
-        → (molecule_view mol.now family).label to ≡ label_of family result.known }
-{
-    Step {
-        byte: byte_of(mol.bonds()[usize::from(bond)].kind),
-        known: known(&mol.atoms()[usize::from(to)]),
+    for last in row {
+        if are_apart(first, last, before, behind) {
+            mark_path(first, middle, last, before, behind, print);
+        }
     }
 }
 
+// Whether no atom of an arm is in the other.
 #[inline(always)]
-fn known(atom: &Atom) -> Known
-    ensures { result ≡ known_of atom.now }
+fn are_apart(first: &Arm, last: &Arm, before: usize, behind: usize) -> bool
+    requires first { before ≤ 1 → first.now.far ≡ first.now.near }
+    requires last { behind ≤ 1 → last.now.far ≡ last.now.near }
+    ensures { IsTrue result ↔ AreApart first.now last.now }
 {
-    Known {
-        number: Some(atom.number),
-        aromatic: Some(atom.aromatic),
-    }
+    first.near != last.near
+        && (behind < 2 || first.near != last.far)
+        && (before < 2 || first.far != last.near)
+        && (before < 2 || behind < 2 || first.far != last.far)
 }
 
+// Sets the bits of a path.
 #[inline(always)]
-fn byte_of(kind: BondKind) -> u8
-    ensures { result ≡ kind_byte kind }
+fn mark_path(first: &Arm, middle: &Middle, last: &Arm, before: usize, behind: usize, print: &mut Print)
+    requires middle { IsMiddle middle.now }
+    requires first { IsArm (views_around middle.now) middle.now.atom before first.now }
+    requires last { IsArm (views_around middle.now) middle.now.atom behind last.now }
+    requires few { before ≤ 2 }
+    requires balanced { IsBalanced before behind }
+    requires distinct { AllPairs ◌≢◌ (path_of before first.now middle.now.atom behind last.now) }
+    ensures { SetsBits (IsBitAt (views_around middle.now) (path_of before first.now middle.now.atom behind last.now))
+        print.old print.new }
 {
-    match kind {
-        BondKind::Single | BondKind::Aromatic => 1,
-        BondKind::Double => 2,
-        BondKind::Triple => 3,
-        BondKind::Quad => 4,
-    }
+    mark(bit_between(&first.exact, middle.labels.exact, &last.exact, before, behind), print);
+    mark(bit_between(&first.plain, middle.labels.plain, &last.plain, before, behind), print);
+}
+
+// Sets a bit.
+#[inline(always)]
+fn mark(bit: u16, print: &mut Print)
+    requires { bit < 1024 }
+    ensures { SetsBits (λ b. b ≡ bit) print.old print.new }
+{
+    print.set(bit);
 }
