@@ -1,10 +1,10 @@
 -- Arms of atoms: what an arm to a neighbour is, and one that goes on to the next.
-use Rattle.std.proofs.Common.{ℕ, zero, suc, ◌+◌, ◌*◌, ◌<◌, ◌≤◌, ◌≡◌, ◌≢◌, ◌⊎◌, inl, inr, List, [], ◌∷◌, ◌++◌, length, get_or, set, take, Contains, refl, sym, ap, ◌∙◌, subst, lit≤, arith}
+use Rattle.std.proofs.Common.{ℕ, zero, suc, ◌+◌, ◌<◌, ◌≤◌, ◌≡◌, ◌≢◌, ◌⊎◌, inl, inr, List, [], ◌∷◌, ◌++◌, length, get_or, set, take, Contains, refl, sym, ap, ◌∙◌, subst, lit≤, arith}
 use Rattle.std.specs.Prelude.{Some, All, AllPairs}
-use Rattle.std.proofs.lemmas.List.{take_more, take_more_set, length-map}
+use Rattle.std.proofs.lemmas.List.{take_more, take_more_set}
 use Rattle.std.proofs.lemmas.List.Elements.{All-push, All-nil, Contains-push, Contains-append_left, Contains-push_cases}
 use Rattle.std.proofs.lemmas.List.Kept.{AllPairs-cons}
-use Rattle.std.proofs.lemmas.Option.{slice_get_within, get_or_from_slice_get, same_Some}
+use Rattle.std.proofs.lemmas.Option.{slice_get_within, get_or_from_slice_get}
 use Rattle.chem_core.specs.Graph.{JoinsAt, AreNeighbours}
 use Rattle.chem_core.specs.Molecule.{Molecule, IsMolecule, ends_of}
 use Rattle.path_print.specs.declared.arm.Half.{Half}
@@ -13,7 +13,7 @@ use Rattle.path_print.specs.declared.arms.Labels.{Labels}
 use Rattle.path_print.specs.Prints.{molecule_view}
 use Rattle.path_print.proofs.Molecules.{byte_neighbour, label_within, molecule_symmetric}
 use Rattle.path_print.specs.Path.{Family, exact, plain, View}
-use Rattle.path_print.specs.Arms.{Joint, IsHalf, IsHalfOf, AreJoints, half_in, label_in, atoms_in, IsArm, AreArms, AreLabels}
+use Rattle.path_print.specs.Arms.{Joint, IsHalf, IsHalfOf, AreJoints, half_in, atoms_in, IsArm, AreArms, AreLabels}
 
 pub joins_swap : (m : Molecule) (b x y : ℕ) → JoinsAt (ends_of m) b x y → JoinsAt (ends_of m) b y x
 joins_swap m b x y joins = elim joins [ inl q ↦ inr q | inr q ↦ inl q ]

@@ -1,9 +1,9 @@
 -- Paths through an atom are two arms to it.
-use Rattle.std.proofs.Common.{ℕ, zero, suc, ◌+◌, ◌-◌, ◌*◌, ◌<◌, ◌≤◌, ◌≡◌, ◌≢◌, ◌⊎◌, inl, inr, Bool, List, [], ◌∷◌, ◌++◌, length, get_or, take, reverse, Contains, refl, sym, ap, ◌∙◌, append_assoc, subst, lit≤, arith}
+use Rattle.std.proofs.Common.{ℕ, zero, suc, ◌+◌, ◌<◌, ◌≤◌, ◌≡◌, ◌≢◌, ◌⊎◌, inl, inr, Bool, List, [], ◌∷◌, ◌++◌, length, get_or, take, reverse, Contains, refl, sym, ap, ◌∙◌, append_assoc, subst, lit≤, arith}
 use Rattle.std.specs.Prelude.{Some, All, AllPairs, option_map}
 use Rattle.std.proofs.lemmas.Bool.{cases_eq, cases_lt}
 use Rattle.std.proofs.lemmas.List.{take_more, get_or-take, get_or_default, length-take-le, length-append, length-reverse, reverse-reverse, reverse-append, get_or_append_left}
-use Rattle.std.proofs.lemmas.List.Elements.{Contains-get_or, Contains-append_left, Contains-push_cases, Contains-push}
+use Rattle.std.proofs.lemmas.List.Elements.{Contains-append_left, Contains-push}
 use Rattle.std.proofs.Math.Seq.{take-length}
 use Rattle.std.proofs.lemmas.Option.{none-some, same_Some}
 use Rattle.chem_core.specs.Bits.{HasBit}
@@ -11,13 +11,12 @@ use Rattle.path_print.specs.declared.arms.Arm.{Arm}
 use Rattle.path_print.specs.Path.{Family, exact, plain, View, string_of, bit_of, IsPath}
 use Rattle.path_print.specs.Prints.{HasPathBits}
 use Rattle.path_print.specs.Texts.{SetsBits, last_of}
-use Rattle.path_print.specs.Arms.{Joint, through, inward, outward, next_to, AreJoints, AreBytes, IsHalf, half_in, atoms_in, IsShaped, IsArm, AreArms, path_of, AreApart, IsBalanced, IsBitOfSome, IsBitAt, IsBitThrough, IsBitAround, IsBitBelow}
-use Rattle.path_print.proofs.Options.{and_then_some, map_some}
+use Rattle.path_print.specs.Arms.{Joint, through, outward, AreJoints, IsHalf, half_in, atoms_in, IsArm, AreArms, path_of, AreApart, IsBalanced, IsBitOfSome, IsBitAt, IsBitThrough, IsBitAround, IsBitBelow}
+use Rattle.path_print.proofs.Options.{and_then_some}
 use Rattle.path_print.proofs.Carries.{labels_in}
 use Rattle.path_print.proofs.Strings.{three_steps}
-use Rattle.path_print.proofs.Grown.{distinct_turned}
-use Rattle.path_print.proofs.Ways.{sets_same, sets_none, bit-turn, path_back}
-use Rattle.path_print.proofs.Joints.{Reaches, blank, length_joints, length_atoms, some_more, distinct_one, distinct_two, distinct_three, distinct_four, distinct_five}
+use Rattle.path_print.proofs.Ways.{sets_none, bit-turn, path_back}
+use Rattle.path_print.proofs.Joints.{Reaches, blank, length_joints, length_atoms, some_more, distinct_three, distinct_four, distinct_five}
 
 -- ---- strings of two arms
 
@@ -219,11 +218,19 @@ some_sets F arms i d a b c lt first second =
         λ h. elim ((second.bits bit).0 h) [
           | inl g ↦ elim ((first.bits bit).0 g) [
             | inl was ↦ inl was
-            | inr some ↦ inr (some.0, subst (λ xs. Contains xs some.0) (sym split)
-                (Contains-append_left (take i arms) (get_or arms i d ∷ []) some.0 some.1), some.2)
+            | inr some ↦ inr (
+              some.0,
+              subst (λ xs. Contains xs some.0) (sym split)
+                  (Contains-append_left (take i arms) (get_or arms i d ∷ []) some.0 some.1),
+              some.2,
+            )
           ]
-          | inr f ↦ inr (get_or arms i d, subst (λ xs. Contains xs (get_or arms i d)) (sym split)
-              (Contains-push (take i arms) (get_or arms i d)), f)
+          | inr f ↦ inr (
+            get_or arms i d,
+            subst (λ xs. Contains xs (get_or arms i d)) (sym split)
+                (Contains-push (take i arms) (get_or arms i d)),
+            f,
+          )
         ],
         λ h. elim h [
           | inl was ↦ (second.bits bit).1 (inl ((first.bits bit).1 (inl was)))
@@ -370,11 +377,17 @@ module _ (views : Family → View) (c n : ℕ) (row : List Arm) (few : n ≤ 2) 
       → IsBitInRow views c n row (length row) bit
   in_row i k bit xs zs lo hi first last at =
       let one : Arm = get_or row k blank in
-      let long : length (take i row) ≡ i = length-take-le i row (omega arith) in
-      (i, hi, (one, (k, omega arith, get_or-take i row k one lo ∙ get_or_default row k one blank (omega arith)),
-      subst (λ zs. IsBitAt views zs bit)
-      (ap (λ zs. zs ++ c ∷ reverse (atoms_in n one)) (sym first) ∙ refl)
-      (subst (λ ws. IsBitAt views (xs ++ c ∷ reverse ws) bit) (sym last) at)))
+      let long : length (take i row) ≡ i = length-take-le i row (omega arith) in (
+        i,
+        hi,
+        (
+          one,
+          (k, omega arith, get_or-take i row k one lo ∙ get_or_default row k one blank (omega arith)),
+          subst (λ zs. IsBitAt views zs bit)
+              (ap (λ zs. zs ++ c ∷ reverse (atoms_in n one)) (sym first) ∙ refl)
+              (subst (λ ws. IsBitAt views (xs ++ c ∷ reverse ws) bit) (sym last) at),
+        ),
+      )
 
   pub row_back : 1 ≤ n → (bit : ℕ) → IsBitThrough views c n n bit → IsBitInRow views c n row (length row) bit
   unfolding Reaches
@@ -527,10 +540,28 @@ path_around views n within family (u ∷ x ∷ c ∷ v ∷ []) there back bit pa
     let lc = labels_in (views family) (u ∷ x ∷ c ∷ v ∷ []) there path.reads 2 0 (lit≤ tt) in
     let lx = labels_in (views family) (u ∷ x ∷ c ∷ v ∷ []) there path.reads 1 0 (lit≤ tt) in
     elim (cases_lt x c) [
-      | inl lt ↦ (c, within family c lc.0 lc.1, (2, 1, lit≤ tt, inr refl,
-          (u ∷ x ∷ [], v ∷ [], refl, refl, inr lt, at)))
-      | inr ge ↦ (x, within family x lx.0 lx.1, (2, 1, lit≤ tt, inr refl,
-          (v ∷ c ∷ [], u ∷ [], refl, refl, inr (omega arith), turn)))
+      | inl lt ↦ (
+        c,
+        within family c lc.0 lc.1,
+        (
+          2,
+          1,
+          lit≤ tt,
+          inr refl,
+          (u ∷ x ∷ [], v ∷ [], refl, refl, inr lt, at),
+        ),
+      )
+      | inr ge ↦ (
+        x,
+        within family x lx.0 lx.1,
+        (
+          2,
+          1,
+          lit≤ tt,
+          inr refl,
+          (v ∷ c ∷ [], u ∷ [], refl, refl, inr (omega arith), turn),
+        ),
+      )
     ]
 path_around views n within family (u ∷ x ∷ c ∷ y ∷ v ∷ []) there back bit path is =
     let l = labels_in (views family) (u ∷ x ∷ c ∷ y ∷ v ∷ []) there path.reads 2 0 (lit≤ tt) in (

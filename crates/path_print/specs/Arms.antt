@@ -4,7 +4,7 @@ use Rattle.path_print.specs.declared.arm.Half.{Half}
 use Rattle.path_print.specs.declared.arms.Arm.{Arm}
 use Rattle.path_print.specs.declared.arms.Labels.{Labels}
 use Rattle.path_print.specs.declared.arms.Middle.{Middle}
-use Rattle.chem_core.specs.Molecule.{Molecule, IsMolecule}
+use Rattle.chem_core.specs.Molecule.{IsMolecule}
 use Rattle.path_print.specs.Prints.{molecule_view}
 use Rattle.path_print.specs.Path.{Family, exact, plain, View, bit_of, IsPath}
 use Rattle.path_print.specs.Texts.{last_of}

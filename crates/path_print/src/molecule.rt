@@ -89,7 +89,14 @@ fn mark_odd(longer: &[Arm], middle: &Middle, row: &[Arm], behind: usize, print: 
 
 // Sets the bits of the paths from the end of an arm to that of one of a row.
 #[inline(always)]
-fn mark_from(first: &Arm, middle: &Middle, row: &[Arm], before: usize, behind: usize, print: &mut Print)
+fn mark_from(
+    first: &Arm,
+    middle: &Middle,
+    row: &[Arm],
+    before: usize,
+    behind: usize,
+    print: &mut Print,
+)
     requires middle { IsMiddle middle.now }
     requires first { IsArm (views_around middle.now) middle.now.atom before first.now }
     requires row { All (IsArm (views_around middle.now) middle.now.atom behind) row.now }
@@ -122,7 +129,14 @@ fn are_apart(first: &Arm, last: &Arm, before: usize, behind: usize) -> bool
 
 // Sets the bits of a path.
 #[inline(always)]
-fn mark_path(first: &Arm, middle: &Middle, last: &Arm, before: usize, behind: usize, print: &mut Print)
+fn mark_path(
+    first: &Arm,
+    middle: &Middle,
+    last: &Arm,
+    before: usize,
+    behind: usize,
+    print: &mut Print,
+)
     requires middle { IsMiddle middle.now }
     requires first { IsArm (views_around middle.now) middle.now.atom before first.now }
     requires last { IsArm (views_around middle.now) middle.now.atom behind last.now }
@@ -132,8 +146,26 @@ fn mark_path(first: &Arm, middle: &Middle, last: &Arm, before: usize, behind: us
     ensures { SetsBits (IsBitAt (views_around middle.now) (path_of before first.now middle.now.atom behind last.now))
         print.old print.new }
 {
-    mark(bit_between(&first.exact, middle.labels.exact, &last.exact, before, behind), print);
-    mark(bit_between(&first.plain, middle.labels.plain, &last.plain, before, behind), print);
+    mark(
+        bit_between(
+            &first.exact,
+            middle.labels.exact,
+            &last.exact,
+            before,
+            behind,
+        ),
+        print,
+    );
+    mark(
+        bit_between(
+            &first.plain,
+            middle.labels.plain,
+            &last.plain,
+            before,
+            behind,
+        ),
+        print,
+    );
 }
 
 // Sets a bit.

@@ -1,8 +1,7 @@
-use Rattle.std.proofs.Common.{ℕ, ◌+◌, ◌<◌, ◌≤◌, ◌≡◌, inl, inr, [], ◌∷◌, length, get_or, set, take, sym, ap, ◌∙◌, subst, lit≤, arith}
+use Rattle.std.proofs.Common.{ℕ, ◌+◌, ◌<◌, inl, inr, [], ◌∷◌, length, get_or, set, take, sym, ap, ◌∙◌, arith}
 use Rattle.std.proofs.lemmas.Bool.{cases_eq}
 use Rattle.std.proofs.lemmas.List.{length-set}
 use Rattle.std.proofs.lemmas.List.Elements.{Contains-get_or}
-use Rattle.path_print.specs.Path.{exact}
 use Rattle.path_print.specs.Arms.{views_around}
 use Rattle.path_print.proofs.Joints.{Reaches, push_each, push_keeps, push_there, reaches_more, reaches_there, behind_all, near_within}
 use Rattle.path_print.proofs.arms.gather_behind.Goals as goal

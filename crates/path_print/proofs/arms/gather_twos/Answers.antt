@@ -1,9 +1,8 @@
-use Rattle.std.proofs.Common.{ℕ, ◌+◌, ◌<◌, ◌≤◌, ◌≡◌, ◌≢◌, inl, inr, [], ◌∷◌, length, get_or, take, Contains, sym, ap, ◌∙◌, subst, lit≤, arith}
+use Rattle.std.proofs.Common.{◌≡◌, ◌≢◌, inl, inr, [], ◌∷◌, length, take, Contains, sym, ap, ◌∙◌, subst, arith}
 use Rattle.std.specs.Prelude.{AllPairs}
 use Rattle.std.proofs.Math.Seq.{take-length}
 use Rattle.path_print.specs.declared.arms.Arm.{Arm}
-use Rattle.path_print.specs.Path.{Family}
-use Rattle.path_print.specs.Arms.{Joint, AreJoints, views_around}
+use Rattle.path_print.specs.Arms.{AreJoints, views_around}
 use Rattle.path_print.proofs.Joints.{Reaches, blank, reaches_more, some_more, twos_all}
 use Rattle.path_print.proofs.arms.gather_twos.Goals as goal
 
@@ -20,14 +19,14 @@ loop-one-preserved c =
       size = more.ensures.room ∙ l.invariant.size;
       each = more.ensures.each l.invariant.each;
       reached = λ one there family z js distinct joints. elim (some_more c.args.ones.now l.one-index blank one
-      c.loop-one-test.true there) [
-        | inl before ↦ reaches_more 2 (take l.count l.twos) (take more.result more.new.twos) (z ∷ one.near ∷ [])
-            more.ensures.kept (l.invariant.reached one before family z js distinct joints)
-        | inr same ↦ subst (λ (w : Arm). AllPairs ◌≢◌ (z ∷ w.near ∷ middle.atom ∷ [])
-            → AreJoints (views_around middle family) middle.atom (z ∷ w.near ∷ []) js
-            → Reaches 2 (take more.result more.new.twos) (z ∷ w.near ∷ [])) same
-            (λ apart reads. more.ensures.all family z js apart reads) distinct joints
-      ];
+          c.loop-one-test.true there) [
+            | inl before ↦ reaches_more 2 (take l.count l.twos) (take more.result more.new.twos) (z ∷ one.near ∷ [])
+                more.ensures.kept (l.invariant.reached one before family z js distinct joints)
+            | inr same ↦ subst (λ (w : Arm). AllPairs ◌≢◌ (z ∷ w.near ∷ middle.atom ∷ [])
+                → AreJoints (views_around middle family) middle.atom (z ∷ w.near ∷ []) js
+                → Reaches 2 (take more.result more.new.twos) (z ∷ w.near ∷ [])) same
+                (λ apart reads. more.ensures.all family z js apart reads) distinct joints
+          ];
     }
 
 pub returns-clause-arms : goal.returns-clause-arms

@@ -1,4 +1,4 @@
-use Rattle.std.proofs.Common.{ℕ, ◌*◌, ◌<◌, ◌≤◌, ◌≡◌, ◌≢◌, List, [], ◌∷◌, length, take, Contains}
+use Rattle.std.proofs.Common.{ℕ, ◌*◌, ◌≤◌, ◌≡◌, ◌≢◌, List, [], ◌∷◌, length, take, Contains}
 use Rattle.std.specs.Prelude.{All, AllPairs}
 use Rattle.path_print.specs.declared.arms.Arm.{Arm}
 use Rattle.path_print.specs.Path.{Family}

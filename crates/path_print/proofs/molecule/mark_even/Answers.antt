@@ -1,4 +1,4 @@
-use Rattle.std.proofs.Common.{ℕ, ◌≡◌, ◌<◌, inl, refl, length, get_or, take, subst, sym, arith}
+use Rattle.std.proofs.Common.{◌≡◌, length, get_or, take, subst, arith}
 use Rattle.path_print.specs.Texts.{SetsBits}
 use Rattle.path_print.specs.Arms.{IsBitAt, IsBitOfSome, IsBitThrough, path_of, views_around}
 use Rattle.path_print.proofs.Ways.{sets_same}

@@ -1,4 +1,4 @@
-use Rattle.std.proofs.Common.{ℕ, ◌≡◌, length, get_or, subst, sym, arith}
+use Rattle.std.proofs.Common.{get_or, subst, sym, arith}
 use Rattle.std.specs.Prelude.{IsTrue}
 use Rattle.std.proofs.lemmas.Bool.{false≢true}
 use Rattle.path_print.specs.declared.arms.Arm.{Arm}

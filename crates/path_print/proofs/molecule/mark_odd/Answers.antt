@@ -1,4 +1,4 @@
-use Rattle.std.proofs.Common.{ℕ, ◌+◌, ◌≡◌, ◌<◌, inr, refl, length, get_or, subst, sym, arith}
+use Rattle.std.proofs.Common.{ℕ, ◌+◌, get_or, subst, sym, arith}
 use Rattle.path_print.specs.declared.arms.Arm.{Arm}
 use Rattle.path_print.specs.Texts.{SetsBits}
 use Rattle.path_print.specs.Arms.{IsBitAt, IsBitOfSome, IsBitThrough, path_of, views_around}

@@ -1,5 +1,4 @@
-use Rattle.std.proofs.Common.{ℕ, ◌⊎◌, ◌≤◌, inl, inr, refl, [], ◌∷◌, lit≤, arith}
-use Rattle.path_print.specs.Texts.{SetsBits}
+use Rattle.std.proofs.Common.{◌⊎◌, inl, inr, refl, [], ◌∷◌, lit≤}
 use Rattle.path_print.specs.Arms.{IsBitAt, IsBitThrough, IsBitAround, views_around}
 use Rattle.path_print.proofs.Ways.{sets_same}
 use Rattle.path_print.proofs.Paths.{none_all, around_all, single_there, single_back, sets_then}

@@ -1,10 +1,10 @@
-use Rattle.std.proofs.Common.{ℕ, ◌≡◌, length, ap, subst, arith}
+use Rattle.std.proofs.Common.{◌≡◌, length, ap, subst, arith}
 use Rattle.chem_core.specs.Molecule.{Molecule}
 use Rattle.path_print.specs.Prints.{molecule_view}
 use Rattle.path_print.specs.Texts.{SetsBits}
 use Rattle.path_print.specs.Arms.{IsBitAround, IsBitBelow}
 use Rattle.path_print.proofs.Molecules.{label_within}
-use Rattle.path_print.proofs.Paths.{sets_next, sets_next_none, around_each}
+use Rattle.path_print.proofs.Paths.{sets_next, around_each}
 use Rattle.path_print.proofs.molecule.print.Goals as goal
 
 pub loop-place-preserved : goal.loop-place-preserved

@@ -1,4 +1,4 @@
-use Rattle.std.proofs.Common.{sym, lit≤}
+use Rattle.std.proofs.Common.{lit≤}
 use Rattle.path_print.specs.Path.{exact, plain}
 use Rattle.path_print.specs.Arms.{views_around}
 use Rattle.path_print.proofs.Joints.{joins_swap, joined_apart, arm_half, two_is_arm}

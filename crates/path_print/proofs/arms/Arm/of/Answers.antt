@@ -1,4 +1,3 @@
-use Rattle.std.proofs.Common.{sym}
 use Rattle.path_print.specs.Arms.{views_around}
 use Rattle.path_print.proofs.Joints.{joins_swap, joined_apart, one_is_arm}
 use Rattle.path_print.proofs.arms.Arm.of.Goals as goal
