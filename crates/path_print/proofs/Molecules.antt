@@ -71,12 +71,6 @@ byte_neighbour m family x y b pairs neighbours h =
     let has = neighbours.each y there.0 (joins_from_ends m.bonds there.0 found.0 x y there.1 there.2) in
     (has.0, has.1, ap (λ p. p.0) (get_or_default pairs has.0 (0, 0) (y, there.0) has.1 ∙ has.2))
 
--- the label of an atom
-pub atom_label : (m : Molecule) (family : Family) (y : ℕ) (d : Atom) → y < length m.atoms
-    → (molecule_view m family).label y ≡ label_of family (known_of (get_or m.atoms y d))
-atom_label m family y d within = ap (option_and_then (λ z. label_of family (known_of z)))
-    (slice_get-get_or m.atoms y d within)
-
 pub label_within : (m : Molecule) (family : Family) (x : ℕ) (l : ℕ × ℕ) → (molecule_view m family).label x ≡ Some l
     → x < length m.atoms
 label_within m family x l h = let q = and_then_some _ (slice_get m.atoms x) l h in slice_get_within m.atoms x q.0 q.1
