@@ -12,13 +12,14 @@ fn each_script_has_its_replies(rt: HostRuntime) -> Result<(), Fail> {
     assert_eq!(rt; serve(&rt, alloc, &["serve", "store", "ann", "ben"])?, 0);
     let ann = fs::read_to_string(&rt, "ann.out")?;
     let ben = fs::read_to_string(&rt, "ben.out")?;
-    assert!(rt; ann.starts_with("ok "));
-    assert!(rt; ann.ends_with(" smiles CCO\n"));
-    assert!(rt; ben.starts_with("ok "));
-    assert!(rt; ben.ends_with(" smiles CCN\n"));
-    assert_eq!(rt; ann.lines().count(), 2);
-    assert_eq!(rt; ben.lines().count(), 2);
+    assert!(rt; shows(&ann, " smiles CCO\n"), "{ann}");
+    assert!(rt; shows(&ben, " smiles CCN\n"), "{ben}");
     Ok(())
+}
+
+// Whether two lines acknowledge a structure and show it.
+fn shows(replies: &str, end: &str) -> bool {
+    replies.starts_with("ok ") && replies.ends_with(end) && replies.lines().count() == 2
 }
 
 #[test]

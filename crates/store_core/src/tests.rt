@@ -199,17 +199,21 @@ fn are_both(page: &Page) -> bool {
     }
 }
 
+// How many entries a prune drops beside a pin, whether the pin reads its version, and how many are dropped without it.
+fn beside_a_pin(alloc: Global, store: &mut Store) -> Result<(u32, bool, u32), Fail> {
+    let pin = pin(store)?;
+    // the first revision is read by nobody
+    let dropped = change_and_prune(alloc, store)?;
+    let has_both = has_both(alloc, store, &pin)?;
+    store.unpin(pin)?;
+    Ok((dropped, has_both, store.prune()?))
+}
+
 #[test]
 fn a_pin_reads_its_version_and_a_prune_drops_the_rest(rt: HostRuntime) -> Result<(), Fail> {
-    let alloc = rt.alloc();
-    let mut store = Store::fresh(alloc, 5);
-    register_two(alloc, &mut store)?;
-    let pin = pin(&mut store)?;
-    // the first revision is read by nobody
-    assert_eq!(rt; change_and_prune(alloc, &mut store)?, 1);
-    assert!(rt; has_both(alloc, &mut store, &pin)?);
-    store.unpin(pin)?;
-    assert_eq!(rt; store.prune()?, 2);
+    let mut store = Store::fresh(rt.alloc(), 5);
+    register_two(rt.alloc(), &mut store)?;
+    assert_eq!(rt; beside_a_pin(rt.alloc(), &mut store)?, (1, true, 2));
     Ok(())
 }
 
@@ -229,10 +233,21 @@ fn live_since(store: &mut Store, id: u32) -> Result<Option<u32>, Fail> {
     }
 }
 
+// What a store with such a base answers to two commits, and the version of 1 before and behind them, and of 7.
+fn commit_two(
+    alloc: Global,
+    store: &mut Store,
+) -> Result<([Result<u32, CommitFault>; 2], [Option<u32>; 3]), Fail> {
+    let (first, seventh) = (live_since(store, 1)?, live_since(store, 7)?);
+    let withdrawn = store.commit(Change::Withdraw(7));
+    let revised = store.commit(Change::Revise(record(alloc, 1, b"CC")?));
+    let last = live_since(store, 1)?;
+    Ok(([withdrawn, revised], [first, last, seventh]))
+}
+
 #[test]
 fn a_store_goes_on_from_its_base(rt: HostRuntime) -> Result<(), Fail> {
-    let alloc = rt.alloc();
-    let mut store = with_base(alloc)?;
+    let mut store = with_base(rt.alloc())?;
     let counts = Stats {
         version: 5,
         live: 1,
@@ -241,17 +256,11 @@ fn a_store_goes_on_from_its_base(rt: HostRuntime) -> Result<(), Fail> {
         pins: 0,
     };
     assert_eq!(rt; store.stats()?, counts);
-    assert_eq!(rt; live_since(&mut store, 1)?, Some(3));
-    assert_eq!(rt; live_since(&mut store, 7)?, None);
-    assert_eq!(rt;
-        store.commit(Change::Withdraw(7)),
-        Err(CommitFault::Withdrawn)
+    let told = (
+        [Err(CommitFault::Withdrawn), Ok(6)],
+        [Some(3), Some(6), None],
     );
-    assert_eq!(rt;
-        store.commit(Change::Revise(record(alloc, 1, b"CC")?)),
-        Ok(6)
-    );
-    assert_eq!(rt; live_since(&mut store, 1)?, Some(6));
+    assert_eq!(rt; commit_two(rt.alloc(), &mut store)?, told);
     assert_eq!(rt; store.compact(), Err(CompactFault::Last));
     Ok(())
 }
@@ -274,10 +283,9 @@ fn change_beside_a_copy(alloc: Global, store: &mut Store) -> Result<u32, Fail> {
 
 #[test]
 fn a_copy_reads_its_version_beside_commits(rt: HostRuntime) -> Result<(), Fail> {
-    let alloc = rt.alloc();
-    let mut store = Store::fresh(alloc, 5);
-    register_two(alloc, &mut store)?;
-    let begin = change_beside_a_copy(alloc, &mut store)?;
+    let mut store = Store::fresh(rt.alloc(), 5);
+    register_two(rt.alloc(), &mut store)?;
+    let begin = change_beside_a_copy(rt.alloc(), &mut store)?;
     // the ammonia is read by nobody
     assert_eq!(rt; store.prune_but(Some(begin)), 1);
     let rows = [
