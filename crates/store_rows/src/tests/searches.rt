@@ -39,7 +39,9 @@ fn three_records_come_by_pages_of_two(rt: HostRuntime) -> Result<(), Fail> {
     let alloc = rt.alloc();
     let mut store = store_of(alloc, &[b"CCCCCC", b"CCCCC", b"OCCCCCC"])?;
     let pattern = parse(alloc, b"CCCCCC")?;
-    let mut search = Search::start(alloc, &mut store, pattern, 2, 2)?;
+    let Ok(mut search) = Search::start(alloc, &mut store, pattern, 2, 2) else {
+        return Err(Fail::new("not begun"));
+    };
     assert_eq!(rt; search.version(), 3);
     assert!(rt; is_next(&rt, &mut store, &mut search, &NoMeter, &[1], 2, false));
     assert!(rt; is_next(&rt, &mut store, &mut search, &NoMeter, &[3], 1, true));
@@ -90,7 +92,9 @@ fn has_thirds<R: Threads + Sync>(
     requires few_records { page ≤ 256 }
 {
     let pattern = parse(alloc, b"CCCCCC")?;
-    let mut search = Search::start_batched(alloc, store, pattern, workers, page, 32)?;
+    let Ok(mut search) = Search::start_batched(alloc, store, pattern, workers, page, 32) else {
+        return Err(Fail::new("not begun"));
+    };
     let mut all = Vec::new(alloc);
     let mut are_told = true;
     for step in steps {
@@ -152,7 +156,9 @@ fn two_pieces_are_matched_at_once(rt: HostRuntime) -> Result<(), Fail> {
         begun: AtomicU32::new(0),
         alone: AtomicU32::new(0),
     };
-    let mut search = Search::start(alloc, &mut store, pattern, 2, 2)?;
+    let Ok(mut search) = Search::start(alloc, &mut store, pattern, 2, 2) else {
+        return Err(Fail::new("not begun"));
+    };
     assert!(rt; is_next(&rt, &mut store, &mut search, &meeting, &[1, 2], 2, true));
     assert_eq!(rt; meeting.alone.load(Ordering::SeqCst), 0);
     assert!(rt; search.close(&mut store).is_ok());

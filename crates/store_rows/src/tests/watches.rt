@@ -27,24 +27,20 @@ fn commit(
     Ok(())
 }
 
-// A watch of a pattern, with hits of none yet.
-fn watch(
-    alloc: Global,
-    watches: &mut Watches,
-    name: &[u8],
-    pattern: &[u8],
-    version: u32,
-) -> Result<(), Fail> {
-    watches.add(name, parse(alloc, pattern)?, version, Vec::new(alloc))?;
-    Ok(())
+// Watches of oxygen at version 0 and of nitrogen at version 2, without hits.
+fn two_watches(alloc: Global) -> Result<Watches, Fail> {
+    let oxygen = parse(alloc, b"O")?;
+    let nitrogen = parse(alloc, b"N")?;
+    let mut watches = Watches::new(alloc);
+    watches.add(b"o", oxygen, 0, Vec::new(alloc))?;
+    watches.add(b"n", nitrogen, 2, Vec::new(alloc))?;
+    Ok(watches)
 }
 
 #[test]
 fn a_row_of_commits_with_both_lists_after_each(rt: HostRuntime) -> Result<(), Fail> {
     let alloc = rt.alloc();
-    let mut watches = Watches::new(alloc);
-    watch(alloc, &mut watches, b"o", b"O", 0)?;
-    watch(alloc, &mut watches, b"n", b"N", 2)?;
+    let mut watches = two_watches(alloc)?;
     let rows: [(u32, u32, &[u8], &[u32], u32, &[u32]); 6] = [
         (1, 4, b"CCO", &[4], 2, &[]),
         (2, 2, b"CO", &[2, 4], 2, &[]),
@@ -65,8 +61,9 @@ fn a_row_of_commits_with_both_lists_after_each(rt: HostRuntime) -> Result<(), Fa
 #[test]
 fn a_watch_that_missed_a_commit_is_filled_and_taken_out(rt: HostRuntime) -> Result<(), Fail> {
     let alloc = rt.alloc();
+    let oxygen = parse(alloc, b"O")?;
     let mut watches = Watches::new(alloc);
-    watch(alloc, &mut watches, b"o", b"O", 0)?;
+    watches.add(b"o", oxygen, 0, Vec::new(alloc))?;
     commit(alloc, &mut watches, 3, 5, b"CO")?;
     let has_missed = watches.list(b"o") == Some((0, &[]));
     if watches.pattern(b"o").is_some() {
