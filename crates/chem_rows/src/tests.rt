@@ -161,6 +161,24 @@ fn answers<R: Abort + Threads + Wait + Sync>(
     Ok(())
 }
 
+// A script over a session in memory has the status 0 and these replies.
+fn replies_are<R: Abort + Threads + Wait + Sync>(
+    rt: &R,
+    alloc: Global,
+    script: &str,
+    replies: &str,
+) -> Result<(), Fail> {
+    answers(
+        rt,
+        alloc,
+        MEM,
+        script.as_bytes(),
+        PLAIN,
+        0,
+        replies.as_bytes(),
+    )
+}
+
 // A script over words has its replies, and the status is 0. Behind `> ` stands a line of the script, behind `< ` a line
 // of the replies, and behind `# ` what a reader is told.
 fn check<R: Abort + Threads + Wait + Sync>(

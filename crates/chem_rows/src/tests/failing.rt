@@ -1,7 +1,7 @@
 //! Sources and sinks that fail.
 ghost use Rattle.std.specs.Prelude.{◌<◌};
 
-use super::{MEM, PLAIN, Ways, answers, session_within};
+use super::{MEM, Ways, answers, replies_are, session_within};
 use io_edge::{MemSink, MemSource};
 use session_run::EndStatus;
 use std::alloc::{AllocError, Global};
@@ -96,15 +96,7 @@ fn each_put_fails_in_turn(rt: HostRuntime) -> Result<(), Fail> {
         taken = taken.saturating_add(lines.len());
     }
     let replies = replies_within(alloc, taken)?;
-    answers(
-        &rt,
-        alloc,
-        MEM,
-        script.as_bytes(),
-        PLAIN,
-        0,
-        replies.as_bytes(),
-    )
+    replies_are(&rt, alloc, &script, &replies)
 }
 
 // How a session over two lines ends that takes no more bytes than this, and what it put.

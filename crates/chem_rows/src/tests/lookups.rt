@@ -1,5 +1,5 @@
 //! Lookups: what is the same structure, and what is most similar.
-use super::{MEM, PLAIN, answers, check};
+use super::{MEM, check, replies_are};
 use std::test::Fail;
 
 #[test]
@@ -233,13 +233,5 @@ fn no_pin_is_free_for_a_lookup(rt: HostRuntime) -> Result<(), Fail> {
         "refused pins\nrefused smiles syntax\nrefused pins\nrefused pins\nrefused pins\n\
         closed\nhit 1\nend at 1 tried 1 hits 1\nstats version 1 live 1 withdrawn 0 kept 1 pins 63\n",
     )?;
-    answers(
-        &rt,
-        alloc,
-        MEM,
-        script.as_bytes(),
-        PLAIN,
-        0,
-        replies.as_bytes(),
-    )
+    replies_are(&rt, alloc, &script, &replies)
 }

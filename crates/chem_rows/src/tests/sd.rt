@@ -1,5 +1,5 @@
 //! Records of SD files, and their data items.
-use super::{MEM, PLAIN, answers, check};
+use super::{MEM, check, replies_are};
 use std::alloc::{AllocError, Global};
 use std::test::Fail;
 
@@ -163,15 +163,7 @@ fn a_record_with_data_items_in_lines_with_cr(rt: HostRuntime) -> Result<(), Fail
         data 999999999 A\ndata 999999999 \ndata 999999999 B\ndata 999999999\ndata 0 A\n";
     let replies = "ok 1\ndata 999999999 3\none\n \ntwo\ndata 999999999 0\n\
         refused data\nrefused syntax\nrefused id\n";
-    answers(
-        &rt,
-        alloc,
-        MEM,
-        script.as_bytes(),
-        PLAIN,
-        0,
-        replies.as_bytes(),
-    )
+    replies_are(&rt, alloc, script, replies)
 }
 
 #[test]
@@ -243,15 +235,7 @@ fn records_that_are_too_long_leave_the_others(rt: HostRuntime) -> Result<(), Fai
     let script = joined(alloc, &pieces)?;
     let replies = "ok 1\nrefused long\nrefused molfile limit\nrefused long\nok 2\n\
         stats version 2 live 2 withdrawn 0 kept 2 pins 0\n";
-    answers(
-        &rt,
-        alloc,
-        MEM,
-        script.as_bytes(),
-        PLAIN,
-        0,
-        replies.as_bytes(),
-    )
+    replies_are(&rt, alloc, &script, replies)
 }
 
 // A record with a line that is too long counts 262,145 bytes, and 256 of these are more than 67,108,864.
@@ -276,15 +260,7 @@ fn texts_of_too_many_bytes_are_refused_from_one_on(rt: HostRuntime) -> Result<()
         ("stats version 0 live 0 withdrawn 0 kept 0 pins 0\n", 1),
     ];
     let replies = joined(alloc, &lines)?;
-    answers(
-        &rt,
-        alloc,
-        MEM,
-        script.as_bytes(),
-        PLAIN,
-        0,
-        replies.as_bytes(),
-    )
+    replies_are(&rt, alloc, &script, &replies)
 }
 
 // A text of pieces, each so many times.

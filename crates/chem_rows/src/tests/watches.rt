@@ -1,5 +1,5 @@
 //! Standing searches: what is watched, what commits do to its hits, and when they are searched anew.
-use super::{MEM, PLAIN, answers, check};
+use super::{MEM, check, replies_are};
 use std::alloc::{AllocError, Global};
 use std::test::Fail;
 
@@ -187,15 +187,7 @@ fn long_scripts(rt: HostRuntime) -> Result<(), Fail> {
     let alloc = rt.alloc();
     let rows = [many_watches(alloc)?, no_pin(alloc)?];
     for (script, replies) in &rows {
-        answers(
-            &rt,
-            alloc,
-            MEM,
-            script.as_bytes(),
-            PLAIN,
-            0,
-            replies.as_bytes(),
-        )?;
+        replies_are(&rt, alloc, script, replies)?;
     }
     Ok(())
 }
