@@ -14,6 +14,3 @@ pub use limits::{MOST_ATOMS, MOST_BONDS, MOST_NEIGHBOURS, are_few_neighbours};
 pub use mol::{Atom, Bond, BondKind, Mol, one_neighbour_list, same_component};
 pub use print::Print;
 pub use sketch::{Fill, Sketch, SketchAtom, SketchBond, SketchKind};
-
-#[cfg(test)]
-mod tests;

@@ -10,6 +10,3 @@ mod molecule;
 pub use answer::{one_answer, one_structure, structure, structure_in};
 pub use fault::{Format, TextFault};
 pub use laws::structures_are_molecules;
-
-#[cfg(test)]
-mod tests;

@@ -45,17 +45,10 @@ one_small (j ∷ k ∷ js) h few half = absurd (omega arith)
 
 pub half_small : (js : List Joint) (h : Half) → length js ≤ 2 → IsHalf js h → IsSmall h
 half_small [] h few half =
-    let n = half.number in
-    let s = half.head in
-    let t = half.tail in
+    let small = one_small [] h (omega arith) half in
     record { number = omega arith; head = omega arith; tail = omega arith }
 half_small (j ∷ []) h few half =
-    let n = half.number in
-    let s = half.head in
-    let t = half.tail in
-    let a = half.bytes.0 in
-    let b = half.bytes.1 in
-    let c = half.bytes.2 in
+    let small = one_small (j ∷ []) h (omega arith) half in
     record { number = omega arith; head = omega arith; tail = omega arith }
 half_small (j ∷ k ∷ []) h few half =
     let n = half.number in

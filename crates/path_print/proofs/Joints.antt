@@ -13,7 +13,7 @@ use Rattle.path_print.specs.declared.arms.Labels.{Labels}
 use Rattle.path_print.specs.Prints.{molecule_view}
 use Rattle.path_print.proofs.Molecules.{byte_neighbour, label_within, molecule_symmetric}
 use Rattle.path_print.specs.Path.{Family, exact, plain, View}
-use Rattle.path_print.specs.Arms.{Joint, IsHalf, IsHalfOf, AreJoints, half_in, atoms_in, IsArm, AreArms, AreLabels}
+use Rattle.path_print.specs.Arms.{HasArm, Joint, IsHalf, IsHalfOf, AreJoints, half_in, atoms_in, IsArm, AreArms, AreLabels}
 
 pub joins_swap : (m : Molecule) (b x y : ℕ) → JoinsAt (ends_of m) b x y → JoinsAt (ends_of m) b y x
 joins_swap m b x y joins = elim joins [ inl q ↦ inr q | inr q ↦ inl q ]
@@ -134,10 +134,6 @@ module _ (views : Family → View) (c to byte : ℕ) (labels : Labels) (e p : Ha
 
 -- ---- arms that are gathered
 
--- an arm with these atoms
-unfoldable pub Reaches : ℕ → List Arm → List ℕ → Type 0
-Reaches n arms xs = (arm : Arm) × Contains arms arm × (atoms_in n arm ≡ xs)
-
 pub push_each : (views : Family → View) (c n : ℕ) (arms : List Arm) (count : ℕ) (arm : Arm) → count < length arms
     → All (IsArm views c n) (take count arms) → IsArm views c n arm
     → All (IsArm views c n) (take (count + 1) (set arms count arm))
@@ -157,13 +153,11 @@ push_there arms count arm room =
     subst (λ xs. Contains xs arm) (sym (take_more_set arms count arm room)) (Contains-push (take count arms) arm)
 
 pub reaches_more : (n : ℕ) (arms more : List Arm) (xs : List ℕ)
-    → ((arm : Arm) → Contains arms arm → Contains more arm) → Reaches n arms xs → Reaches n more xs
-unfolding Reaches
+    → ((arm : Arm) → Contains arms arm → Contains more arm) → HasArm n arms xs → HasArm n more xs
 reaches_more n arms more xs keeps r = (r.0, keeps r.0 r.1, r.2)
 
 pub reaches_there : (n : ℕ) (arms : List Arm) (arm : Arm) (xs : List ℕ) → Contains arms arm → atoms_in n arm ≡ xs
-    → Reaches n arms xs
-unfolding Reaches
+    → HasArm n arms xs
 reaches_there n arms arm xs there is = (arm, there, is)
 
 -- what stands behind a list of arms
@@ -185,26 +179,26 @@ some_more arms i d one lt there =
 module _ (m : Molecule) (family : Family) (c : ℕ) (arms : List Arm) (pairs : List (ℕ × ℕ)) where
   -- the arms to all neighbours
   pub ones_all : AreNeighbours (ends_of m) c pairs
-      → ((k : ℕ) → k < length pairs → Reaches 1 arms ((get_or pairs k (0, 0)).0 ∷ []))
-      → (xs : List ℕ) (js : List Joint) → length xs ≡ 1 → AreJoints (molecule_view m family) c xs js → Reaches 1 arms xs
+      → ((k : ℕ) → k < length pairs → HasArm 1 arms ((get_or pairs k (0, 0)).0 ∷ []))
+      → (xs : List ℕ) (js : List Joint) → length xs ≡ 1 → AreJoints (molecule_view m family) c xs js → HasArm 1 arms xs
   ones_all neighbours reached [] js size joints = absurd (omega arith)
   ones_all neighbours reached (y ∷ []) [] size joints = absurd joints
   ones_all neighbours reached (y ∷ []) (j ∷ js) size joints =
       let k = byte_neighbour m family c y j.1 pairs neighbours (molecule_symmetric m family c y ∙ joints.1) in
-      subst (λ z. Reaches 1 arms (z ∷ [])) k.2 (reached k.0 k.1)
+      subst (λ z. HasArm 1 arms (z ∷ [])) k.2 (reached k.0 k.1)
   ones_all neighbours reached (x ∷ y ∷ xs) js size joints = absurd (omega arith)
 
   -- and those that go on from one
   pub behind_all : (near : ℕ) → AreNeighbours (ends_of m) near pairs
       → ((k : ℕ) → k < length pairs → (get_or pairs k (0, 0)).0 ≢ c
-      → Reaches 2 arms ((get_or pairs k (0, 0)).0 ∷ near ∷ []))
+      → HasArm 2 arms ((get_or pairs k (0, 0)).0 ∷ near ∷ []))
       → (z : ℕ) (js : List Joint) → AllPairs ◌≢◌ (z ∷ near ∷ c ∷ [])
-      → AreJoints (molecule_view m family) c (z ∷ near ∷ []) js → Reaches 2 arms (z ∷ near ∷ [])
+      → AreJoints (molecule_view m family) c (z ∷ near ∷ []) js → HasArm 2 arms (z ∷ near ∷ [])
   behind_all near neighbours reached z [] distinct joints = absurd joints
   behind_all near neighbours reached z (j ∷ js) distinct joints =
       let k = byte_neighbour m family near z j.1 pairs neighbours (molecule_symmetric m family near z ∙ joints.1) in
       let apart : z ≢ c = distinct 0 2 0 (lit≤ tt) (lit≤ tt) in
-      subst (λ y. Reaches 2 arms (y ∷ near ∷ [])) k.2 (reached k.0 k.1 (λ same. apart (sym k.2 ∙ same)))
+      subst (λ y. HasArm 2 arms (y ∷ near ∷ [])) k.2 (reached k.0 k.1 (λ same. apart (sym k.2 ∙ same)))
 
 -- the atom of an arm is one of the molecule's
 pub near_within : (m : Molecule) (c : ℕ) (one : Arm) → IsArm (molecule_view m) c 1 one → one.near < length m.atoms
@@ -218,9 +212,9 @@ near_within m c one is = at (is.halves exact).0 (is.halves exact).1
 pub twos_all : (views : Family → View) (c : ℕ) (ones arms : List Arm) → AreArms views c 1 ones
     → ((one : Arm) → Contains ones one → (family : Family) (z : ℕ) (js : List Joint)
     → AllPairs ◌≢◌ (z ∷ one.near ∷ c ∷ []) → AreJoints (views family) c (z ∷ one.near ∷ []) js
-    → Reaches 2 arms (z ∷ one.near ∷ []))
+    → HasArm 2 arms (z ∷ one.near ∷ []))
     → (family : Family) (xs : List ℕ) (js : List Joint) → length xs ≡ 2 → AllPairs ◌≢◌ (xs ++ c ∷ [])
-    → AreJoints (views family) c xs js → Reaches 2 arms xs
+    → AreJoints (views family) c xs js → HasArm 2 arms xs
 twos_all views c ones arms all behind family [] js size distinct joints = absurd (omega arith)
 twos_all views c ones arms all behind family (z ∷ []) js size distinct joints = absurd (omega arith)
 twos_all views c ones arms all behind family (z ∷ y ∷ []) [] size distinct joints = absurd joints
@@ -229,5 +223,5 @@ twos_all views c ones arms all behind family (z ∷ y ∷ []) (j ∷ js) size di
     let r = all.all family (y ∷ []) js refl two joints.2 in
     let same : r.0.near ≡ y = let h = r.2 in cc in
     subst (λ w. AllPairs ◌≢◌ (z ∷ w ∷ c ∷ []) → AreJoints (views family) c (z ∷ w ∷ []) (j ∷ js)
-    → Reaches 2 arms (z ∷ w ∷ [])) same (behind r.0 r.1 family z (j ∷ js)) distinct joints
+    → HasArm 2 arms (z ∷ w ∷ [])) same (behind r.0 r.1 family z (j ∷ js)) distinct joints
 twos_all views c ones arms all behind family (z ∷ y ∷ x ∷ xs) js size distinct joints = absurd (omega arith)

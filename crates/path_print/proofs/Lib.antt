@@ -12,3 +12,4 @@ pub mod Twins
 pub mod Neighbours
 pub mod Joints
 pub mod Paths
+pub mod Around

@@ -1,15 +1,14 @@
 -- The steps of a molecule's paths are those to neighbours.
 use Rattle.std.proofs.Common.{ℕ, ◌<◌, ◌≡◌, inl, inr, Bool, true, false, cond, List, [], ◌∷◌, length, get_or, refl, ap, ◌∙◌, subst}
-use Rattle.std.specs.Prelude.{Some, option_map, option_and_then, find, ◌&&◌, ◌||◌, ◌==◌}
+use Rattle.std.specs.Prelude.{Some, option_map, find, ◌&&◌, ◌||◌, ◌==◌}
 use Rattle.std.specs.List.{slice_get}
 use Rattle.std.proofs.lemmas.List.{get_or_default, length-map}
 use Rattle.std.proofs.lemmas.Option.{slice_get_within, slice_get-get_or, get_or_from_slice_get}
-use Rattle.chem_core.specs.declared.mol.Atom.{Atom}
 use Rattle.chem_core.specs.declared.mol.Bond.{Bond}
 use Rattle.chem_core.specs.Graph.{JoinsAt, AreNeighbours}
 use Rattle.chem_core.specs.Molecule.{Molecule, IsMolecule, ends_of}
-use Rattle.path_print.specs.Path.{Family, label_of}
-use Rattle.path_print.specs.Prints.{known_of, kind_byte, are_ends, molecule_view}
+use Rattle.path_print.specs.Path.{Family}
+use Rattle.path_print.specs.Prints.{kind_byte, are_ends, molecule_view}
 use Rattle.path_print.proofs.Options.{and_then_some, map_some, find_there}
 use Rattle.path_print.proofs.Carries.{joins_from_ends, found_bond}
 

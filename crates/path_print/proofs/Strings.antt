@@ -44,8 +44,8 @@ string-push v (z ∷ w ∷ ws) x y = ap (λ r. option_and_then
     (string-push v (w ∷ ws) x y) ∙ later_step (v.label z) (v.byte z w) (string_of v (w ∷ ws ++ x ∷ []))
     (tail_of (v.byte x y) (v.label y))
 
-pub three_steps : (o : Option (ℕ × ℕ)) (p : Option ℕ) (r : Option (List ℕ)) (l : ℕ × ℕ) (b : ℕ) (s : List ℕ) → o ≡ Some l
-    → p ≡ Some b → r ≡ Some s → option_and_then
+pub three_steps : (o : Option (ℕ × ℕ)) (p : Option ℕ) (r : Option (List ℕ)) (l : ℕ × ℕ) (b : ℕ) (s : List ℕ)
+    → o ≡ Some l → p ≡ Some b → r ≡ Some s → option_and_then
     (λ l. option_and_then (λ b. option_and_then (λ s. Some (l.0 ∷ l.1 ∷ b ∷ s)) r) p) o ≡ Some (l.0 ∷ l.1 ∷ b ∷ s)
 three_steps o p r l b s ho hp hr = rw (ho, hp, hr)
 

@@ -53,6 +53,26 @@ sets_more H F i a b c first second = record {
   );
 }
 
+-- one more place
+pub sets_next : (F : ℕ → ℕ → Type 0) (i : ℕ) (a b c : List Bool) → SetsBits (λ bit. (k : ℕ) × (k < i) × F k bit) a b
+    → SetsBits (F i) b c → SetsBits (λ bit. (k : ℕ) × (k < i + 1) × F k bit) a c
+sets_next F i a b c first second = record {
+  size = second.size ∙ first.size;
+  bits = λ bit. (
+    λ h. elim ((second.bits bit).0 h) [
+      | inl g ↦ elim ((first.bits bit).0 g) [ inl old ↦ inl old | inr new ↦ inr (new.0, omega (arith, new.1), new.2) ]
+      | inr f ↦ inr (i, omega arith, f)
+    ],
+    λ h. elim h [
+      | inl old ↦ (second.bits bit).1 (inl ((first.bits bit).1 (inl old)))
+      | inr new ↦ elim (cases_eq new.0 i) [
+        | inl same ↦ (second.bits bit).1 (inr (subst (λ k. F k bit) same new.2))
+        | inr other ↦ (second.bits bit).1 (inl ((first.bits bit).1 (inr (new.0, omega (arith, new.1), new.2))))
+      ]
+    ],
+  );
+}
+
 pub sets_none : (F : ℕ → Type 0) (a : List Bool) → ((bit : ℕ) → F bit → ⊥) → SetsBits F a a
 sets_none F a none = record {
   size = refl;
@@ -398,22 +418,7 @@ below_none views print none = record {
 
 pub below_more : (views : Family → View) (i : ℕ) (a b c : List Bool) → SetsBits (IsBitBelow views i) a b
     → SetsBits (IsBitFrom views (i ∷ [])) b c → SetsBits (IsBitBelow views (i + 1)) a c
-below_more views i a b c first second = record {
-  size = second.size ∙ first.size;
-  bits = λ bit. (
-    λ h. elim ((second.bits bit).0 h) [
-      | inl g ↦ elim ((first.bits bit).0 g) [ inl old ↦ inl old | inr new ↦ inr (new.0, omega (arith, new.1), new.2) ]
-      | inr f ↦ inr (i, omega arith, f)
-    ],
-    λ h. elim h [
-      | inl old ↦ (second.bits bit).1 (inl ((first.bits bit).1 (inl old)))
-      | inr new ↦ elim (cases_eq new.0 i) [
-        | inl same ↦ (second.bits bit).1 (inr (subst (λ k. IsBitFrom views (k ∷ []) bit) same new.2))
-        | inr other ↦ (second.bits bit).1 (inl ((first.bits bit).1 (inr (new.0, omega (arith, new.1), new.2))))
-      ]
-    ],
-  );
-}
+below_more views = sets_next (λ k. IsBitFrom views (k ∷ []))
 
 -- ---- the two ends of a path
 

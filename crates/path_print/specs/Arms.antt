@@ -1,5 +1,6 @@
 -- Paths through an atom: two arms, each read inward to the atom or outward from it. For private clauses alone.
 use Rattle.std.specs.Prelude.{◌≡◌, ◌≢◌, ◌⊎◌, ℕ, zero, suc, ◌+◌, ◌*◌, ◌<◌, ◌≤◌, List, [], ◌∷◌, ◌++◌, length, reverse, fold, All, AllPairs, Contains, Some}
+use Rattle.path_print.specs.declared.arm.TheConstants.{LONGEST}
 use Rattle.path_print.specs.declared.arm.Half.{Half}
 use Rattle.path_print.specs.declared.arms.Arm.{Arm}
 use Rattle.path_print.specs.declared.arms.Labels.{Labels}
@@ -35,11 +36,12 @@ number_of bytes = fold (λ n byte. 256 * n + byte) 0 bytes
 abbrev pub sum_from : ℕ → List ℕ → ℕ
 sum_from start bytes = fold (λ n byte. 131 * n + byte) start bytes
 
+-- labels and bytes of bonds are bytes
 abbrev pub AreBytes : List Joint → Type 0
 AreBytes [] = Unit {0}
 AreBytes (j ∷ js) = (j.0.0 < 256) × (j.0.1 < 256) × (j.1 < 256) × AreBytes js
 
--- what is kept of an arm
+-- what is kept of an arm with these labels and bonds
 pub record IsHalf (js : List Joint) (half : Half) : Type 0 where
   pub bytes : AreBytes js
   pub number : half.number ≡ number_of (inward js)
@@ -62,6 +64,7 @@ AreJoints v c (x ∷ xs) [] = ⊥
 AreJoints v c [] (j ∷ js) = ⊥
 AreJoints v c (x ∷ xs) (j ∷ js) = (v.label x ≡ Some j.0) × (v.byte x (next_to c xs) ≡ Some j.1) × AreJoints v c xs js
 
+-- what is kept of an arm in a family of labels
 abbrev pub half_in : Arm → Family → Half
 half_in arm exact = arm.exact
 half_in arm plain = arm.plain
@@ -72,7 +75,7 @@ atoms_in zero arm = []
 atoms_in (suc zero) arm = arm.near ∷ []
 atoms_in (suc (suc n)) arm = arm.far ∷ arm.near ∷ []
 
--- both atoms that an arm names are among the arm and the middle
+-- which atoms an arm of less than two names
 abbrev pub IsShaped : ℕ → ℕ → Arm → Type 0
 IsShaped zero c arm = (arm.near ≡ c) × (arm.far ≡ c)
 IsShaped (suc zero) c arm = arm.far ≡ arm.near
@@ -85,12 +88,21 @@ pub record IsArm (views : Family → View) (c n : ℕ) (arm : Arm) : Type 0 wher
   pub halves : (family : Family) → (js : List Joint) × AreJoints (views family) c (atoms_in n arm) js
       × IsHalf js (half_in arm family)
 
+-- one of the arms has these atoms
+abbrev pub HasArm : ℕ → List Arm → List ℕ → Type 0
+HasArm n arms xs = (arm : Arm) × Contains arms arm × (atoms_in n arm ≡ xs)
+
+-- each of the arms is one of the others
+abbrev pub AreAmong : List Arm → List Arm → Type 0
+AreAmong arms others = (arm : Arm) → Contains arms arm → Contains others arm
+
 -- all arms to c of that many atoms
 pub record AreArms (views : Family → View) (c n : ℕ) (arms : List Arm) : Type 0 where
   pub each : All (IsArm views c n) arms
   pub all : (family : Family) (xs : List ℕ) (js : List Joint) → length xs ≡ n → AllPairs ◌≢◌ (xs ++ c ∷ [])
-      → AreJoints (views family) c xs js → (arm : Arm) × Contains arms arm × (atoms_in n arm ≡ xs)
+      → AreJoints (views family) c xs js → HasArm n arms xs
 
+-- the label in a family
 abbrev pub label_in : Labels → Family → ℕ × ℕ
 label_in labels exact = labels.exact
 label_in labels plain = labels.plain
@@ -109,6 +121,14 @@ pub record IsMiddle (middle : Middle) : Type 0 where
   pub valid : IsMolecule middle.mol.now
   pub labels : AreLabels (views_around middle) middle.atom middle.labels
 
+-- an arm to a middle, of that many atoms
+abbrev pub IsArmTo : Middle → ℕ → Arm → Type 0
+IsArmTo middle n arm = IsArm (views_around middle) middle.atom n arm
+
+-- all arms to a middle of that many atoms
+abbrev pub AreArmsTo : Middle → ℕ → List Arm → Type 0
+AreArmsTo middle n arms = AreArms (views_around middle) middle.atom n arms
+
 -- the atoms of the path from the end of one arm to that of another
 abbrev pub path_of : ℕ → Arm → ℕ → ℕ → Arm → List ℕ
 path_of before first c behind last = atoms_in before first ++ c ∷ reverse (atoms_in behind last)
@@ -122,7 +142,7 @@ AreApart first last = (first.near ≢ last.near) × (first.near ≢ last.far) ×
 abbrev pub IsBalanced : ℕ → ℕ → Type 0
 IsBalanced before behind = (before ≡ behind) ⊎ (before ≡ behind + 1)
 
--- an arm of these of which that is a bit
+-- a bit of one of these arms
 abbrev pub IsBitOfSome : (Arm → ℕ → Type 0) → List Arm → ℕ → Type 0
 IsBitOfSome IsBit arms bit = (arm : Arm) × Contains arms arm × IsBit arm bit
 
@@ -139,7 +159,7 @@ IsBitThrough views c before behind bit = (xs ys : List ℕ) × (length xs ≡ be
 
 -- the bit of a path of which c is the middle, or the higher of the two atoms in the middle
 abbrev pub IsBitAround : (Family → View) → ℕ → ℕ → Type 0
-IsBitAround views c bit = (before behind : ℕ) × (before ≤ 2) × IsBalanced before behind
+IsBitAround views c bit = (before behind : ℕ) × (before ≤ LONGEST) × IsBalanced before behind
     × IsBitThrough views c before behind bit
 
 -- the bit of a path of which one of the first n atoms is the middle

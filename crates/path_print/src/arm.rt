@@ -2,11 +2,17 @@
 //!
 //! A path is two arms with an atom between. Its hash is found from what is kept of each arm, and which of its two
 //! strings is the lesser from the numbers of the arms: so nothing is worked out again for the paths that share an arm.
-ghost use Rattle.std.specs.Prelude.{◌≡◌, ◌⊎◌, ◌+◌, ◌*◌, ◌%◌, ◌^◌, ◌<◌, ◌≤◌, ℕ, List, [], ◌∷◌, length, IsTrue};
+ghost use Rattle.std.specs.Prelude.{◌≡◌, ◌+◌, ◌*◌, ◌%◌, ◌^◌, ◌<◌, ◌≤◌, ℕ, List, [], ◌∷◌, length, IsTrue};
 ghost use Rattle.path_print.specs.Path.{hash_of, lesser, bit_of};
-ghost use Rattle.path_print.specs.Arms.{Joint, IsHalf, IsHalfOf, through};
+ghost use Rattle.path_print.specs.Arms.{Joint, IsHalf, IsHalfOf, IsBalanced, through};
 
 use crate::text::{FACTOR, PRIME, SEED, SHIFTED, bit_from, sum_of};
+
+/// The most atoms of an arm.
+pub const LONGEST: usize = 2;
+
+// What a number is multiplied by, before three bytes are added.
+const SHIFT: u64 = 256 * 256 * 256;
 
 // What a sum is multiplied by, before three bytes are added.
 const CUBE: u64 = FACTOR * FACTOR * FACTOR;
@@ -30,6 +36,13 @@ impl Half {
         tail: 0,
     };
 
+    /// What stands for an arm before one is written.
+    pub const BLANK: Half = Half {
+        number: 0,
+        head: 0,
+        tail: 0,
+    };
+
     /// The arm of one atom, with this label, by a bond with this byte.
     #[inline(always)]
     pub fn of(label: (u8, u8), byte: u8) -> Half
@@ -49,7 +62,7 @@ impl Half {
         ensures { (j : Joint) → IsHalf (j ∷ []) self.now → IsHalf ((label, byte) ∷ j ∷ []) result }
     {
         Half {
-            number: number_of(label, byte) * 16777216 + self.number,
+            number: number_of(label, byte) * SHIFT + self.number,
             head: (SHIFTED + sum_of(label.0, label.1, byte)) * CUBE + self.head,
             tail: self.tail * CUBE + sum_of(byte, label.0, label.1),
         }
@@ -61,8 +74,8 @@ impl Half {
 pub fn bit_between(first: &Half, label: (u8, u8), last: &Half, before: usize, behind: usize) -> u16
     requires first { IsHalfOf before first.now }
     requires last { IsHalfOf behind last.now }
-    requires short { before ≤ 2 }
-    requires counted { (before ≡ behind) ⊎ (before ≡ behind + 1) }
+    requires short { before ≤ LONGEST }
+    requires balanced { IsBalanced before behind }
     ensures value { (js ks : List Joint) → length js ≡ before → length ks ≡ behind → IsHalf js first.now
         → IsHalf ks last.now → result ≡ bit_of (through js label ks) (through ks label js) }
     ensures small { result < 1024 }
@@ -79,14 +92,16 @@ pub fn bit_between(first: &Half, label: (u8, u8), last: &Half, before: usize, be
 fn is_back_lesser(first: &Half, label: (u8, u8), last: &Half, before: usize, behind: usize) -> bool
     requires first { IsHalfOf before first.now }
     requires last { IsHalfOf behind last.now }
-    requires short { before ≤ 2 }
-    requires counted { (before ≡ behind) ⊎ (before ≡ behind + 1) }
+    requires short { before ≤ LONGEST }
+    requires balanced { IsBalanced before behind }
     ensures yes { IsTrue result → (js ks : List Joint) → length js ≡ before → length ks ≡ behind → IsHalf js first.now
         → IsHalf ks last.now → lesser (through js label ks) (through ks label js) ≡ through ks label js }
     ensures no { (IsTrue result → ⊥) → (js ks : List Joint) → length js ≡ before → length ks ≡ behind
         → IsHalf js first.now → IsHalf ks last.now
         → lesser (through js label ks) (through ks label js) ≡ through js label ks }
 {
+    // Of unequal arms what is compared ends before the byte of the bond from the longer one to the middle. Both strings
+    // have this byte there.
     if before == behind {
         last.number < first.number
     } else {
@@ -97,9 +112,9 @@ fn is_back_lesser(first: &Half, label: (u8, u8), last: &Half, before: usize, beh
 // The bit of the string from the first arm to the last, which has so many atoms.
 #[inline(always)]
 fn bit_through(first: &Half, label: (u8, u8), last: &Half, behind: usize) -> u16
-    requires first { (n : ℕ) × (n ≤ 2) × IsHalfOf n first.now }
+    requires first { (n : ℕ) × (n ≤ LONGEST) × IsHalfOf n first.now }
     requires last { IsHalfOf behind last.now }
-    requires short { behind ≤ 2 }
+    requires short { behind ≤ LONGEST }
     ensures value { (js ks : List Joint) → IsHalf js first.now → length ks ≡ behind → IsHalf ks last.now
         → result ≡ hash_of (through js label ks) % 1024 }
     ensures small { result < 1024 }
@@ -112,7 +127,7 @@ fn bit_through(first: &Half, label: (u8, u8), last: &Half, behind: usize) -> u16
 // What the bytes before an arm of so many atoms are multiplied by, in a hash.
 #[inline(always)]
 fn weight_of(atoms: usize) -> u64
-    requires { atoms ≤ 2 }
+    requires { atoms ≤ LONGEST }
     ensures value { result ≡ 131 ^ (3 * atoms) % 65521 }
     ensures small { result < 65521 }
 {

@@ -1,10 +1,10 @@
 //! The arms around an atom: those of one atom lead to its neighbours, those of two go on to theirs.
-ghost use Rattle.std.specs.Prelude.{◌≡◌, ◌≢◌, ◌+◌, ◌*◌, ◌<◌, ◌≤◌, [], ◌∷◌, ◌++◌, ℕ, All, AllPairs, Contains, List, Some, length, take};
+ghost use Rattle.std.specs.Prelude.{◌≡◌, ◌≢◌, ◌+◌, ◌<◌, ◌≤◌, [], ◌∷◌, ℕ, All, AllPairs, List, Some, length, take};
 ghost use Rattle.chem_core.specs.Graph.{JoinsAt};
 ghost use Rattle.chem_core.specs.Molecule.{IsMolecule, ends_of};
 ghost use Rattle.path_print.specs.Path.{Family};
 ghost use Rattle.path_print.specs.Prints.{kind_byte, molecule_view};
-ghost use Rattle.path_print.specs.Arms.{Joint, AreLabels, IsMiddle, IsArm, AreArms, AreJoints, atoms_in, views_around};
+ghost use Rattle.path_print.specs.Arms.{Joint, AreLabels, IsMiddle, IsArmTo, AreArmsTo, AreJoints, HasArm, AreAmong, views_around};
 
 use crate::arm::Half;
 use chem_core::{BondKind, MOST_NEIGHBOURS, Mol};
@@ -12,10 +12,12 @@ use chem_core::{BondKind, MOST_NEIGHBOURS, Mol};
 /// The most arms of two atoms.
 pub const MOST_TWOS: usize = MOST_NEIGHBOURS * MOST_NEIGHBOURS;
 
-/// An arm in both families of labels, with its atom next to the middle and the one at its end.
+/// An arm in both families of labels.
 #[derive(Clone, Copy)]
 pub struct Arm {
+    /// The atom next to the middle; the middle itself where the arm has no atom.
     pub near: u16,
+    /// The atom at its end, the same where the arm has one atom or none.
     pub far: u16,
     pub exact: Half,
     pub plain: Half,
@@ -58,14 +60,14 @@ impl Arm {
     pub const BLANK: Arm = Arm {
         near: 0,
         far: 0,
-        exact: Half::NONE,
-        plain: Half::NONE,
+        exact: Half::BLANK,
+        plain: Half::BLANK,
     };
 
     /// The arm of no atom to an atom.
     #[inline(always)]
     pub fn none(middle: &Middle) -> Arm
-        ensures { IsArm (views_around middle.now) middle.now.atom 0 result }
+        ensures { IsArmTo middle.now 0 result }
     {
         Arm {
             near: middle.atom,
@@ -80,7 +82,7 @@ impl Arm {
     fn of(middle: &Middle, to: u16, bond: u16) -> Arm
         requires middle { IsMiddle middle.now }
         requires joined { JoinsAt (ends_of middle.now.mol.now) bond middle.now.atom to }
-        ensures arm { IsArm (views_around middle.now) middle.now.atom 1 result }
+        ensures arm { IsArmTo middle.now 1 result }
         ensures near { result.near ≡ to }
     {
         let byte = byte_at(middle.mol, bond);
@@ -97,10 +99,10 @@ impl Arm {
     #[inline(always)]
     fn longer(&self, middle: &Middle, to: u16, bond: u16) -> Arm
         requires middle { IsMiddle middle.now }
-        requires arm { IsArm (views_around middle.now) middle.now.atom 1 self.now }
+        requires arm { IsArmTo middle.now 1 self.now }
         requires joined { JoinsAt (ends_of middle.now.mol.now) bond self.now.near to }
         requires new { to ≢ middle.now.atom }
-        ensures arm { IsArm (views_around middle.now) middle.now.atom 2 result }
+        ensures arm { IsArmTo middle.now 2 result }
         ensures near { result.near ≡ self.now.near }
         ensures far { result.far ≡ to }
     {
@@ -120,7 +122,7 @@ impl Arm {
 pub fn gather_ones(ones: &mut [Arm], middle: &Middle) -> usize
     requires middle { IsMiddle middle.now }
     requires room { length ones.old ≡ MOST_NEIGHBOURS }
-    ensures arms { AreArms (views_around middle.now) middle.now.atom 1 (take result ones.new) }
+    ensures arms { AreArmsTo middle.now 1 (take result ones.new) }
     ensures count { result ≤ MOST_NEIGHBOURS }
     ensures room { length ones.new ≡ MOST_NEIGHBOURS }
 {
@@ -137,9 +139,9 @@ pub fn gather_ones(ones: &mut [Arm], middle: &Middle) -> usize
 pub fn gather_twos(twos: &mut [Arm], ones: &[Arm], middle: &Middle) -> usize
     requires middle { IsMiddle middle.now }
     requires room { length twos.old ≡ MOST_TWOS }
-    requires ones { AreArms (views_around middle.now) middle.now.atom 1 ones.now }
+    requires ones { AreArmsTo middle.now 1 ones.now }
     requires few { length ones.now ≤ MOST_NEIGHBOURS }
-    ensures arms { AreArms (views_around middle.now) middle.now.atom 2 (take result twos.new) }
+    ensures arms { AreArmsTo middle.now 2 (take result twos.new) }
     ensures count { result ≤ MOST_TWOS }
     ensures room { length twos.new ≡ MOST_TWOS }
 {
@@ -155,13 +157,14 @@ pub fn gather_twos(twos: &mut [Arm], ones: &[Arm], middle: &Middle) -> usize
 fn gather_behind(twos: &mut [Arm], start: usize, one: &Arm, middle: &Middle) -> usize
     requires middle { IsMiddle middle.now }
     requires room { start + MOST_NEIGHBOURS ≤ length twos.old }
-    requires one { IsArm (views_around middle.now) middle.now.atom 1 one.now }
-    ensures each { All (IsArm (views_around middle.now) middle.now.atom 2) (take start twos.old)
-        → All (IsArm (views_around middle.now) middle.now.atom 2) (take result twos.new) }
-    ensures kept { (arm : _) → Contains (take start twos.old) arm → Contains (take result twos.new) arm }
-    ensures all { (family : Family) (z : ℕ) (js : List Joint) → AllPairs ◌≢◌ (z ∷ one.now.near ∷ middle.now.atom ∷ [])
+    requires one { IsArmTo middle.now 1 one.now }
+    ensures each { All (IsArmTo middle.now 2) (take start twos.old)
+        → All (IsArmTo middle.now 2) (take result twos.new) }
+    ensures kept { AreAmong (take start twos.old) (take result twos.new) }
+    ensures all { (family : Family) (z : ℕ) (js : List Joint)
+        → AllPairs ◌≢◌ (z ∷ one.now.near ∷ middle.now.atom ∷ [])
         → AreJoints (views_around middle.now family) middle.now.atom (z ∷ one.now.near ∷ []) js
-        → (arm : _) × Contains (take result twos.new) arm × (atoms_in 2 arm ≡ z ∷ one.now.near ∷ []) }
+        → HasArm 2 (take result twos.new) (z ∷ one.now.near ∷ []) }
     ensures count { result ≤ start + MOST_NEIGHBOURS }
     ensures room { length twos.new ≡ length twos.old }
 {

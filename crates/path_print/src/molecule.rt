@@ -5,9 +5,9 @@
 ghost use Rattle.std.specs.Prelude.{◌≡◌, ◌≢◌, ◌↔◌, ◌<◌, ◌≤◌, ◌+◌, All, AllPairs, IsTrue, length};
 ghost use Rattle.path_print.specs.Prints.{IsPrint};
 ghost use Rattle.path_print.specs.Texts.{SetsBits};
-ghost use Rattle.path_print.specs.Arms.{IsMiddle, IsArm, AreArms, AreApart, IsBalanced, IsBitOfSome, IsBitAt, IsBitThrough, IsBitAround, path_of, views_around};
+ghost use Rattle.path_print.specs.Arms.{IsMiddle, IsArmTo, AreArmsTo, AreApart, IsBalanced, IsBitOfSome, IsBitAt, IsBitThrough, IsBitAround, path_of, views_around};
 
-use crate::arm::bit_between;
+use crate::arm::{LONGEST, bit_between};
 use crate::arms::{Arm, MOST_TWOS, Middle, gather_ones, gather_twos};
 use chem_core::{MOST_NEIGHBOURS, Mol, Print};
 
@@ -44,8 +44,8 @@ fn mark_around(middle: &Middle, ones: &mut [Arm], twos: &mut [Arm], print: &mut 
 #[inline(always)]
 fn mark_through(middle: &Middle, ones: &[Arm], twos: &[Arm], print: &mut Print)
     requires middle { IsMiddle middle.now }
-    requires ones { AreArms (views_around middle.now) middle.now.atom 1 ones.now }
-    requires twos { AreArms (views_around middle.now) middle.now.atom 2 twos.now }
+    requires ones { AreArmsTo middle.now 1 ones.now }
+    requires twos { AreArmsTo middle.now 2 twos.now }
     ensures { SetsBits (IsBitAround (views_around middle.now) middle.now.atom) print.old print.new }
 {
     let none = [Arm::none(middle)];
@@ -61,9 +61,9 @@ fn mark_through(middle: &Middle, ones: &[Arm], twos: &[Arm], print: &mut Print)
 #[inline(always)]
 fn mark_even(row: &[Arm], middle: &Middle, atoms: usize, print: &mut Print)
     requires middle { IsMiddle middle.now }
-    requires row { AreArms (views_around middle.now) middle.now.atom atoms row.now }
+    requires row { AreArmsTo middle.now atoms row.now }
     requires some { 1 ≤ atoms }
-    requires few { atoms ≤ 2 }
+    requires few { atoms ≤ LONGEST }
     ensures { SetsBits (IsBitThrough (views_around middle.now) middle.now.atom atoms atoms) print.old print.new }
 {
     for place in 0..row.len() {
@@ -75,10 +75,11 @@ fn mark_even(row: &[Arm], middle: &Middle, atoms: usize, print: &mut Print)
 #[inline(always)]
 fn mark_odd(longer: &[Arm], middle: &Middle, row: &[Arm], behind: usize, print: &mut Print)
     requires middle { IsMiddle middle.now }
-    requires longer { AreArms (views_around middle.now) middle.now.atom (behind + 1) longer.now }
-    requires row { AreArms (views_around middle.now) middle.now.atom behind row.now }
+    requires longer { AreArmsTo middle.now (behind + 1) longer.now }
+    requires row { AreArmsTo middle.now behind row.now }
     requires few { behind ≤ 1 }
-    ensures { SetsBits (IsBitThrough (views_around middle.now) middle.now.atom (behind + 1) behind) print.old print.new }
+    ensures { SetsBits (IsBitThrough (views_around middle.now) middle.now.atom (behind + 1) behind) print.old
+        print.new }
 {
     for first in longer {
         if first.near < middle.atom {
@@ -98,10 +99,10 @@ fn mark_from(
     print: &mut Print,
 )
     requires middle { IsMiddle middle.now }
-    requires first { IsArm (views_around middle.now) middle.now.atom before first.now }
-    requires row { All (IsArm (views_around middle.now) middle.now.atom behind) row.now }
+    requires first { IsArmTo middle.now before first.now }
+    requires row { All (IsArmTo middle.now behind) row.now }
     requires some { 1 ≤ before }
-    requires few { before ≤ 2 }
+    requires few { before ≤ LONGEST }
     requires balanced { IsBalanced before behind }
     ensures { SetsBits (IsBitOfSome
         (λ last. IsBitAt (views_around middle.now) (path_of before first.now middle.now.atom behind last)) row.now)
@@ -138,34 +139,19 @@ fn mark_path(
     print: &mut Print,
 )
     requires middle { IsMiddle middle.now }
-    requires first { IsArm (views_around middle.now) middle.now.atom before first.now }
-    requires last { IsArm (views_around middle.now) middle.now.atom behind last.now }
-    requires few { before ≤ 2 }
+    requires first { IsArmTo middle.now before first.now }
+    requires last { IsArmTo middle.now behind last.now }
+    requires few { before ≤ LONGEST }
     requires balanced { IsBalanced before behind }
     requires distinct { AllPairs ◌≢◌ (path_of before first.now middle.now.atom behind last.now) }
     ensures { SetsBits (IsBitAt (views_around middle.now) (path_of before first.now middle.now.atom behind last.now))
         print.old print.new }
 {
-    mark(
-        bit_between(
-            &first.exact,
-            middle.labels.exact,
-            &last.exact,
-            before,
-            behind,
-        ),
-        print,
-    );
-    mark(
-        bit_between(
-            &first.plain,
-            middle.labels.plain,
-            &last.plain,
-            before,
-            behind,
-        ),
-        print,
-    );
+    let labels = middle.labels;
+    let exact = bit_between(&first.exact, labels.exact, &last.exact, before, behind);
+    let plain = bit_between(&first.plain, labels.plain, &last.plain, before, behind);
+    mark(exact, print);
+    mark(plain, print);
 }
 
 // Sets a bit.

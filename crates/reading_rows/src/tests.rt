@@ -6,12 +6,15 @@ use chem_core::{Atom, Mol};
 use std::alloc::{AllocError, Global};
 
 mod molfiles;
+mod parts;
 mod patterns;
 mod primitives;
 mod prints;
 mod rings;
 mod same;
 mod similar;
+mod structures;
+mod texts;
 
 // An atom with four hydrogens.
 const CARBON: Atom = Atom {

@@ -13,6 +13,3 @@ mod steps;
 pub use chains::Chains;
 pub use finder::Finder;
 pub use steps::Steps;
-
-#[cfg(test)]
-mod tests;

@@ -104,6 +104,3 @@ fn place_of(slot: u32, slots: &[u32]) -> usize
     }
     0
 }
-
-#[cfg(test)]
-mod tests;

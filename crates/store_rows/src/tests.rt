@@ -5,7 +5,9 @@ use std::alloc::Global;
 use std::test::Fail;
 use store_core::{Change, Record, Service, Store};
 
+mod chains;
 mod lookups;
+mod pins;
 mod records;
 mod searches;
 mod stores;

@@ -33,7 +33,7 @@ fn disk_of(alloc: Global, bytes: &[u8]) -> Result<MemDisk, AllocError> {
     MemDisk::of(alloc, bytes.to_vec(alloc)?)
 }
 
-// An answer has this status, these replies, and these bytes on its first disk, and none on its second.
+// Whether an answer has this status, these replies, these bytes on its first disk, and none on its second.
 fn has_left(answer: &Answer, status: u8, replies: &str, left: &[u8]) -> bool {
     answer.status == status
         && put_by(answer) == replies.as_bytes()

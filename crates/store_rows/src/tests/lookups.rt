@@ -7,7 +7,7 @@ use std::alloc::Global;
 use std::test::Fail;
 use store_core::{Record, Service, Store};
 
-// What is the same as a text, and how many were tried, by pages of a size; nothing where that cannot be asked.
+// Whether these are what is the same as a text, of so many that were tried, by pages of a size.
 fn are_same(
     alloc: Global,
     store: &mut Store,

@@ -42,5 +42,5 @@ returns-else-before-behind-clause-yes c lt js ks sj sk ha hb =
 pub returns-else-before-behind-clause-no : goal.returns-else-before-behind-clause-no
 returns-else-before-behind-clause-no c le js ks sj sk ha hb =
     let high = is_above _ _ le in
-    odd_there c.args.label c.args.first.now c.args.last.now (omega arith) (omega arith) js ks (omega arith) (omega arith)
-    ha hb (omega arith)
+    odd_there c.args.label c.args.first.now c.args.last.now (omega arith) (omega arith) js ks (omega arith)
+    (omega arith) ha hb (omega arith)

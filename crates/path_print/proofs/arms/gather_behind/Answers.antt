@@ -3,7 +3,7 @@ use Rattle.std.proofs.lemmas.Bool.{cases_eq}
 use Rattle.std.proofs.lemmas.List.{length-set}
 use Rattle.std.proofs.lemmas.List.Elements.{Contains-get_or}
 use Rattle.path_print.specs.Arms.{views_around}
-use Rattle.path_print.proofs.Joints.{Reaches, push_each, push_keeps, push_there, reaches_more, reaches_there, behind_all, near_within}
+use Rattle.path_print.proofs.Joints.{push_each, push_keeps, push_there, reaches_more, reaches_there, behind_all, near_within}
 use Rattle.path_print.proofs.arms.gather_behind.Goals as goal
 use Rattle.path_print.proofs.arms.gather_behind.Goals.{then-to-middle, else-to-middle}
 
@@ -72,7 +72,6 @@ loop-to-preserved c =
     ]
 
 pub returns-clause-all : goal.returns-clause-all
-unfolding Reaches
 returns-clause-all c family z js distinct joints =
     let l = c.loop-to in
     let middle = c.args.middle.now in

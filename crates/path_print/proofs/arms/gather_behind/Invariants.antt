@@ -1,8 +1,7 @@
 use Rattle.std.proofs.Common.{ℕ, ◌+◌, ◌<◌, ◌≤◌, ◌≡◌, ◌≢◌, [], ◌∷◌, length, get_or, take, Contains}
 use Rattle.std.specs.Prelude.{All}
 use Rattle.path_print.specs.declared.arms.Arm.{Arm}
-use Rattle.path_print.specs.Arms.{IsArm, views_around}
-use Rattle.path_print.proofs.Joints.{Reaches}
+use Rattle.path_print.specs.Arms.{HasArm, IsArm, views_around}
 use Rattle.path_print.proofs.arms.gather_behind.Given as goal
 
 -- the arms that go on to the neighbours so far, behind those that were there
@@ -14,5 +13,5 @@ invariant-loop-to l = record {
       → All (IsArm (views_around l.middle) l.middle.atom 2) (take l.count l.twos);
   kept : (arm : Arm) → Contains (take l.start l.fn.twos) arm → Contains (take l.count l.twos) arm;
   reached : (k : ℕ) → k < l.to-index → (get_or l.to-items k (0, 0)).0 ≢ l.middle.atom
-      → Reaches 2 (take l.count l.twos) ((get_or l.to-items k (0, 0)).0 ∷ l.one.near ∷ []);
+      → HasArm 2 (take l.count l.twos) ((get_or l.to-items k (0, 0)).0 ∷ l.one.near ∷ []);
 }

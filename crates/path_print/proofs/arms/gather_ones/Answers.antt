@@ -3,7 +3,7 @@ use Rattle.std.proofs.lemmas.Bool.{cases_eq}
 use Rattle.std.proofs.lemmas.List.{length-set}
 use Rattle.std.proofs.lemmas.List.Elements.{Contains-get_or}
 use Rattle.path_print.specs.Arms.{views_around}
-use Rattle.path_print.proofs.Joints.{Reaches, push_each, push_keeps, push_there, reaches_more, reaches_there, ones_all}
+use Rattle.path_print.proofs.Joints.{push_each, push_keeps, push_there, reaches_more, reaches_there, ones_all}
 use Rattle.path_print.proofs.arms.gather_ones.Goals as goal
 
 pub of-requires-clause-joined : goal.of-requires-clause-joined
@@ -26,7 +26,8 @@ loop-to-preserved c =
     record {
       count = omega arith;
       size = length-set l.ones l.count c.of.result ∙ l.invariant.size;
-      each = push_each (views_around middle) middle.atom 1 l.ones l.count c.of.result room l.invariant.each c.of.ensures.arm;
+      each = push_each (views_around middle) middle.atom 1 l.ones l.count c.of.result room l.invariant.each
+          c.of.ensures.arm;
       reached = λ k lt. elim (cases_eq k l.to-index) [
         | inl same ↦ reaches_there 1 (take (l.count + 1) (set l.ones l.count c.of.result)) c.of.result
             ((get_or pairs k (0, 0)).0 ∷ []) (push_there l.ones l.count c.of.result room)
@@ -38,7 +39,6 @@ loop-to-preserved c =
     }
 
 pub returns-clause-arms : goal.returns-clause-arms
-unfolding Reaches
 returns-clause-arms c =
     let l = c.loop-to in
     let middle = c.args.middle.now in

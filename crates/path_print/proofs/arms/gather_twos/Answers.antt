@@ -2,12 +2,11 @@ use Rattle.std.proofs.Common.{◌≡◌, ◌≢◌, inl, inr, [], ◌∷◌, len
 use Rattle.std.specs.Prelude.{AllPairs}
 use Rattle.std.proofs.Math.Seq.{take-length}
 use Rattle.path_print.specs.declared.arms.Arm.{Arm}
-use Rattle.path_print.specs.Arms.{AreJoints, views_around}
-use Rattle.path_print.proofs.Joints.{Reaches, blank, reaches_more, some_more, twos_all}
+use Rattle.path_print.specs.Arms.{HasArm, AreJoints, views_around}
+use Rattle.path_print.proofs.Joints.{blank, reaches_more, some_more, twos_all}
 use Rattle.path_print.proofs.arms.gather_twos.Goals as goal
 
 pub loop-one-preserved : goal.loop-one-preserved
-unfolding Reaches
 loop-one-preserved c =
     let l = c.loop-one in
     let more = c.gather_behind-count in
@@ -24,13 +23,12 @@ loop-one-preserved c =
                 more.ensures.kept (l.invariant.reached one before family z js distinct joints)
             | inr same ↦ subst (λ (w : Arm). AllPairs ◌≢◌ (z ∷ w.near ∷ middle.atom ∷ [])
                 → AreJoints (views_around middle family) middle.atom (z ∷ w.near ∷ []) js
-                → Reaches 2 (take more.result more.new.twos) (z ∷ w.near ∷ [])) same
+                → HasArm 2 (take more.result more.new.twos) (z ∷ w.near ∷ [])) same
                 (λ apart reads. more.ensures.all family z js apart reads) distinct joints
           ];
     }
 
 pub returns-clause-arms : goal.returns-clause-arms
-unfolding Reaches
 returns-clause-arms c =
     let l = c.loop-one in
     let middle = c.args.middle.now in
@@ -40,6 +38,6 @@ returns-clause-arms c =
     record {
       each = l.invariant.each;
       all = λ family xs js size distinct joints. twos_all (views_around middle) middle.atom ones (take l.count l.twos)
-          c.requires.ones (λ one there. l.invariant.reached one (subst (λ zs. Contains zs one) (sym all) there)) family xs
-          js size distinct joints;
+          c.requires.ones (λ one there. l.invariant.reached one (subst (λ zs. Contains zs one) (sym all) there)) family
+          xs js size distinct joints;
     }

@@ -2,8 +2,7 @@ use Rattle.std.proofs.Common.{ℕ, ◌*◌, ◌≤◌, ◌≡◌, ◌≢◌, Lis
 use Rattle.std.specs.Prelude.{All, AllPairs}
 use Rattle.path_print.specs.declared.arms.Arm.{Arm}
 use Rattle.path_print.specs.Path.{Family}
-use Rattle.path_print.specs.Arms.{Joint, AreJoints, IsArm, views_around}
-use Rattle.path_print.proofs.Joints.{Reaches}
+use Rattle.path_print.specs.Arms.{HasArm, Joint, AreJoints, IsArm, views_around}
 use Rattle.path_print.proofs.arms.gather_twos.Given as goal
 
 -- the arms that go on from those so far
@@ -15,5 +14,5 @@ invariant-loop-one l = record {
   reached : (one : Arm) → Contains (take l.one-index l.ones) one → (family : Family) (z : ℕ) (js : List Joint)
       → AllPairs ◌≢◌ (z ∷ one.near ∷ l.middle.atom ∷ [])
       → AreJoints (views_around l.middle family) l.middle.atom (z ∷ one.near ∷ []) js
-      → Reaches 2 (take l.count l.twos) (z ∷ one.near ∷ []);
+      → HasArm 2 (take l.count l.twos) (z ∷ one.near ∷ []);
 }

@@ -1,9 +1,9 @@
 use Rattle.std.proofs.Common.{◌≡◌, length, get_or, take, subst, arith}
 use Rattle.path_print.specs.Texts.{SetsBits}
 use Rattle.path_print.specs.Arms.{IsBitAt, IsBitOfSome, IsBitThrough, path_of, views_around}
-use Rattle.path_print.proofs.Ways.{sets_same}
+use Rattle.path_print.proofs.Ways.{sets_next, sets_same}
 use Rattle.path_print.proofs.Joints.{blank}
-use Rattle.path_print.proofs.Paths.{IsBitInRow, row_there, row_back, sets_next, sets_next_none}
+use Rattle.path_print.proofs.Around.{IsBitInRow, row_there, row_back, sets_next_none}
 use Rattle.path_print.proofs.molecule.mark_even.Goals as goal
 
 pub loop-place-init : goal.loop-place-init

@@ -1,6 +1,6 @@
 use Rattle.path_print.specs.Texts.{SetsBits}
 use Rattle.path_print.specs.Arms.{views_around}
-use Rattle.path_print.proofs.Paths.{IsBitInRow}
+use Rattle.path_print.proofs.Around.{IsBitInRow}
 use Rattle.path_print.proofs.molecule.mark_even.Given as goal
 
 -- the bits of the paths from the arms so far, each to those before it, are set

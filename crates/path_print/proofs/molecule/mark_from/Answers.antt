@@ -6,7 +6,8 @@ use Rattle.path_print.specs.Texts.{SetsBits}
 use Rattle.path_print.specs.Arms.{IsBitAt, path_of, views_around}
 use Rattle.path_print.proofs.Ways.{sets_none}
 use Rattle.path_print.proofs.Joints.{blank}
-use Rattle.path_print.proofs.Paths.{apart_distinct, distinct_apart, some_sets, some_sets_none, some_sets_all}
+use Rattle.path_print.proofs.Paths.{apart_distinct, distinct_apart}
+use Rattle.path_print.proofs.Around.{some_sets, some_sets_none, some_sets_all}
 use Rattle.path_print.proofs.molecule.mark_from.Goals as goal
 use Rattle.path_print.proofs.molecule.mark_from.Goals.{then-are_apart, else-are_apart}
 
@@ -43,8 +44,8 @@ loop-last-preserved c =
           subst (SetsBits (IsBitAt views (path_of before first middle.atom behind last)) l.print) (sym w.print-is)
           (sets_none (IsBitAt views (path_of before first middle.atom behind last)) l.print
           (λ bit at. false≢true (subst IsTrue w.if-are_apart.false
-          (c.are_apart.ensures.1 (distinct_apart views middle.atom first last before behind c.requires.some c.requires.few
-          c.requires.balanced c.requires.first (c.requires.row l.last-index blank c.loop-last-test.true)
+          (c.are_apart.ensures.1 (distinct_apart views middle.atom first last before behind c.requires.some
+          c.requires.few c.requires.balanced c.requires.first (c.requires.row l.last-index blank c.loop-last-test.true)
           at.3.distinct)))))
     ])
 
@@ -53,5 +54,5 @@ returns c =
     let l = c.loop-last in
     let middle = c.args.middle.now in
     some_sets_all (λ last. IsBitAt (views_around middle)
-    (path_of c.args.before c.args.first.now middle.atom c.args.behind last)) c.args.row.now l.last-index c.args.print.now
-    l.print (omega arith) l.invariant
+    (path_of c.args.before c.args.first.now middle.atom c.args.behind last)) c.args.row.now l.last-index
+    c.args.print.now l.print (omega arith) l.invariant

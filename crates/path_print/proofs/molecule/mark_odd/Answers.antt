@@ -4,7 +4,7 @@ use Rattle.path_print.specs.Texts.{SetsBits}
 use Rattle.path_print.specs.Arms.{IsBitAt, IsBitOfSome, IsBitThrough, path_of, views_around}
 use Rattle.path_print.proofs.Ways.{sets_none, sets_same}
 use Rattle.path_print.proofs.Joints.{blank}
-use Rattle.path_print.proofs.Paths.{IsBitFromLower, lower_there, lower_back, some_sets, some_sets_none, some_sets_all}
+use Rattle.path_print.proofs.Around.{IsBitFromLower, lower_there, lower_back, some_sets, some_sets_none, some_sets_all}
 use Rattle.path_print.proofs.molecule.mark_odd.Goals as goal
 use Rattle.path_print.proofs.molecule.mark_odd.Goals.{then-first-middle, else-first-middle}
 
@@ -23,8 +23,8 @@ loop-first-preserved c =
     let row = c.args.row.now in
     let first : Arm = get_or c.args.longer.now l.first-index blank in
     let here : ℕ → Type 0 = IsBitFromLower views middle.atom behind row first in
-    some_sets (IsBitFromLower views middle.atom behind row) c.args.longer.now l.first-index blank c.args.print.now l.print
-    c.if-first-middle.print c.loop-first-test.true l.invariant
+    some_sets (IsBitFromLower views middle.atom behind row) c.args.longer.now l.first-index blank c.args.print.now
+    l.print c.if-first-middle.print c.loop-first-test.true l.invariant
     (elim c.if-first-middle.branch [
       | then-first-middle w ↦
           subst (SetsBits here l.print) (sym w.print-is)

@@ -1,7 +1,7 @@
 use Rattle.std.proofs.Common.{take}
 use Rattle.path_print.specs.Texts.{SetsBits}
 use Rattle.path_print.specs.Arms.{IsBitOfSome, views_around}
-use Rattle.path_print.proofs.Paths.{IsBitFromLower}
+use Rattle.path_print.proofs.Around.{IsBitFromLower}
 use Rattle.path_print.proofs.molecule.mark_odd.Given as goal
 
 -- the bits of the paths from the longer arms so far are set

@@ -6,23 +6,23 @@ use Rattle.path_print.proofs.Joints.{arm_half}
 use Rattle.path_print.proofs.Paths.{both_set, path_with}
 use Rattle.path_print.proofs.molecule.mark_path.Goals as goal
 
-pub bit_between-requires-clause-first : goal.bit_between-requires-clause-first
-bit_between-requires-clause-first c =
+pub bit_between-exact-requires-clause-first : goal.bit_between-exact-requires-clause-first
+bit_between-exact-requires-clause-first c =
     arm_half (views_around c.args.middle.now) c.args.middle.now.atom c.args.before c.args.first.now exact c.requires.few
     c.requires.first
 
-pub bit_between-requires-clause-last : goal.bit_between-requires-clause-last
-bit_between-requires-clause-last c =
+pub bit_between-exact-requires-clause-last : goal.bit_between-exact-requires-clause-last
+bit_between-exact-requires-clause-last c =
     arm_half (views_around c.args.middle.now) c.args.middle.now.atom c.args.behind c.args.last.now exact (omega arith)
     c.requires.last
 
-pub bit_between-requires-2-clause-first : goal.bit_between-requires-2-clause-first
-bit_between-requires-2-clause-first c =
+pub bit_between-plain-requires-clause-first : goal.bit_between-plain-requires-clause-first
+bit_between-plain-requires-clause-first c =
     arm_half (views_around c.args.middle.now) c.args.middle.now.atom c.args.before c.args.first.now plain c.requires.few
     c.requires.first
 
-pub bit_between-requires-2-clause-last : goal.bit_between-requires-2-clause-last
-bit_between-requires-2-clause-last c =
+pub bit_between-plain-requires-clause-last : goal.bit_between-plain-requires-clause-last
+bit_between-plain-requires-clause-last c =
     arm_half (views_around c.args.middle.now) c.args.middle.now.atom c.args.behind c.args.last.now plain (omega arith)
     c.requires.last
 
@@ -36,12 +36,12 @@ returns c =
     let before = c.args.before in
     let behind = c.args.behind in
     let few : behind ≤ 2 = omega arith in
-    both_set views (path_of before first middle.atom behind last) c.bit_between.result c.bit_between-2.result
+    both_set views (path_of before first middle.atom behind last) c.bit_between-exact.result c.bit_between-plain.result
     c.args.print.now c.mark.new.print c.mark-2.new.print
-    (path_with views symmetric middle.atom before behind first last exact middle.labels.exact c.bit_between.result
+    (path_with views symmetric middle.atom before behind first last exact middle.labels.exact c.bit_between-exact.result
     (c.requires.middle.labels exact) c.requires.few few c.requires.first c.requires.last c.requires.distinct
-    c.bit_between.ensures.value)
-    (path_with views symmetric middle.atom before behind first last plain middle.labels.plain c.bit_between-2.result
+    c.bit_between-exact.ensures.value)
+    (path_with views symmetric middle.atom before behind first last plain middle.labels.plain c.bit_between-plain.result
     (c.requires.middle.labels plain) c.requires.few few c.requires.first c.requires.last c.requires.distinct
-    c.bit_between-2.ensures.value)
+    c.bit_between-plain.ensures.value)
     c.mark.ensures c.mark-2.ensures

@@ -1,7 +1,7 @@
 use Rattle.std.proofs.Common.{◌⊎◌, inl, inr, refl, [], ◌∷◌, lit≤}
 use Rattle.path_print.specs.Arms.{IsBitAt, IsBitThrough, IsBitAround, views_around}
 use Rattle.path_print.proofs.Ways.{sets_same}
-use Rattle.path_print.proofs.Paths.{none_all, around_all, single_there, single_back, sets_then}
+use Rattle.path_print.proofs.Around.{none_all, around_all, single_there, single_back, sets_then}
 use Rattle.path_print.proofs.molecule.mark_through.Goals as goal
 
 pub mark_odd-requires-clause-row : goal.mark_odd-requires-clause-row

@@ -4,7 +4,8 @@ use Rattle.path_print.specs.Prints.{molecule_view}
 use Rattle.path_print.specs.Texts.{SetsBits}
 use Rattle.path_print.specs.Arms.{IsBitAround, IsBitBelow}
 use Rattle.path_print.proofs.Molecules.{label_within}
-use Rattle.path_print.proofs.Paths.{sets_next, around_each}
+use Rattle.path_print.proofs.Ways.{sets_next}
+use Rattle.path_print.proofs.Around.{around_each}
 use Rattle.path_print.proofs.molecule.print.Goals as goal
 
 pub loop-place-preserved : goal.loop-place-preserved
@@ -16,7 +17,8 @@ loop-place-preserved c =
     record {
       bits = sets_next (IsBitAround views) l.place c.empty-print.result l.print c.mark_around.new.print l.invariant.bits
           (subst (λ a. SetsBits (IsBitAround views a) l.print c.mark_around.new.print) c.of-middle.ensures.atom
-          (subst (λ (m : Molecule). SetsBits (IsBitAround (molecule_view m) middle.atom) l.print c.mark_around.new.print)
+          (subst
+          (λ (m : Molecule). SetsBits (IsBitAround (molecule_view m) middle.atom) l.print c.mark_around.new.print)
           c.of-middle.ensures.mol marks.bits));
       ones = marks.ones;
       twos = marks.twos;

@@ -17,7 +17,7 @@ returns-clause-arm c =
     let middle = c.args.middle.now in
     let near = c.args.self.now.near in
     let swapped = joins_swap middle.mol.now c.args.bond near c.args.to c.requires.joined in
-    two_is_arm (views_around middle) middle.atom c.args.to c.byte_at-byte.result c.labels_of-labels.result c.longer.result
-    c.longer-2.result c.requires.new c.labels_of-labels.ensures.labels c.args.self.now c.requires.arm
+    two_is_arm (views_around middle) middle.atom c.args.to c.byte_at-byte.result c.labels_of-labels.result
+    c.longer.result c.longer-2.result c.requires.new c.labels_of-labels.ensures.labels c.args.self.now c.requires.arm
     (joined_apart middle.mol.now c.args.bond c.args.to near c.requires.middle.valid swapped)
     (λ family. c.byte_at-byte.ensures family c.args.to near swapped) c.longer.ensures c.longer-2.ensures

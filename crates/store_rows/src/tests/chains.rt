@@ -1,7 +1,8 @@
 //! Chains of two identifiers, worked by hand.
 ghost use Rattle.std.specs.Prelude.{◌≡◌, ◌<◌};
 
-use crate::{Chains, Finder, Steps};
+use record_versions::{Chains, Finder, Steps};
+use std::alloc::{AllocError, Global};
 use std::marker::Brand;
 use std::sync::ledger::{Blank, Ledger};
 use std::test::Fail;
@@ -46,17 +47,21 @@ fn find_by<L: Ledger>(
     Some((version, *value))
 }
 
-#[test]
-fn an_entry_is_read_until_the_next_and_dead_where_nobody_reads_it(
-    rt: HostRuntime,
-) -> Result<(), Fail> {
-    let mut chains = Chains::new(rt.alloc());
+// Entries of 7 at versions 1 and 3, and of 2 at version 2.
+fn three_entries(alloc: Global) -> Result<Chains<char>, AllocError> {
+    let mut chains = Chains::new(alloc);
     chains.reserve(7)?;
     chains.add(7, 1, 'a');
     chains.reserve(7)?;
     chains.add(7, 3, 'b');
     chains.reserve(2)?;
     chains.add(2, 2, 'c');
+    Ok(chains)
+}
+
+#[test]
+fn an_entry_is_read_until_the_next(rt: HostRuntime) -> Result<(), Fail> {
+    let chains = three_entries(rt.alloc())?;
     let rows = [
         (7, 0, None),
         (7, 1, Some((1, 'a'))),
@@ -68,26 +73,38 @@ fn an_entry_is_read_until_the_next_and_dead_where_nobody_reads_it(
     ];
     let mut finder = chains.finder(0);
     for (id, version, entry) in rows {
-        assert_eq!(rt;
-            find(&mut finder, id, version),
-            entry,
-            "{id} at {version} by a finder"
-        );
-        assert_eq!(rt; look(&chains, id, version), entry, "{id} at {version}");
+        let both = [find(&mut finder, id, version), look(&chains, id, version)];
+        assert_eq!(rt; both, [entry; 2], "{id} at {version}");
     }
+    Ok(())
+}
+
+#[test]
+fn an_identifier_has_an_entry(rt: HostRuntime) -> Result<(), Fail> {
+    let mut chains = three_entries(rt.alloc())?;
     chains.reserve(5)?;
     for (from, id) in [(0, Some(2)), (3, Some(7)), (7, Some(7)), (8, None)] {
         assert_eq!(rt; chains.next_id(from), id, "from {from} on");
     }
-    assert_eq!(rt; chains.dead(&[2, 3]), None);
-    assert_eq!(rt; chains.dead(&[1, 3]), None);
-    assert_eq!(rt; chains.dead(&[1]), Some((2, 2)));
-    assert_eq!(rt; chains.dead_from((2, 3), &[1]), Some((7, 3)));
-    assert_eq!(rt; chains.dead(&[3]), Some((7, 1)));
-    assert_eq!(rt; chains.take(7, 2), None);
-    assert_eq!(rt; chains.take(7, 1), Some('a'));
-    assert_eq!(rt; chains.dead(&[3]), None);
-    assert_eq!(rt; chains.kept(), 2);
+    Ok(())
+}
+
+#[test]
+fn an_entry_is_dead_where_nobody_reads_it(rt: HostRuntime) -> Result<(), Fail> {
+    let mut chains = three_entries(rt.alloc())?;
+    let rows: [((u32, u32), &[u32], Option<(u32, u32)>); 5] = [
+        ((0, 0), &[2, 3], None),
+        ((0, 0), &[1, 3], None),
+        ((0, 0), &[1], Some((2, 2))),
+        ((2, 3), &[1], Some((7, 3))),
+        ((0, 0), &[3], Some((7, 1))),
+    ];
+    for (from, live, dead) in rows {
+        assert_eq!(rt; chains.dead_from(from, live), dead, "{live:?}");
+    }
+    let taken = [chains.take(7, 2), chains.take(7, 1)];
+    assert_eq!(rt; taken, [None, Some('a')]);
+    assert_eq!(rt; (chains.dead(&[3]), chains.kept()), (None, 2));
     Ok(())
 }
 
@@ -102,11 +119,11 @@ fn one_more_follows_where_the_newest_and_the_oldest_were_taken(
     chains.add(4, 2, 'b');
     chains.reserve(4)?;
     chains.add(4, 5, 'c');
-    assert_eq!(rt; chains.take(4, 5), Some('c'));
-    assert_eq!(rt; chains.take(4, 1), Some('a'));
-    assert_eq!(rt; look(&chains, 4, 9), Some((2, 'b')));
+    let taken = [chains.take(4, 5), chains.take(4, 1)];
+    let left = look(&chains, 4, 9);
     chains.reserve(4)?;
     chains.add(4, 6, 'd');
+    assert_eq!(rt; (taken, left), ([Some('c'), Some('a')], Some((2, 'b'))));
     let rows = [
         (1, None),
         (5, Some((2, 'b'))),
@@ -116,7 +133,6 @@ fn one_more_follows_where_the_newest_and_the_oldest_were_taken(
     for (version, entry) in rows {
         assert_eq!(rt; look(&chains, 4, version), entry, "at {version}");
     }
-    assert_eq!(rt; chains.dead(&[6]), Some((4, 2)));
-    assert_eq!(rt; chains.kept(), 2);
+    assert_eq!(rt; (chains.dead(&[6]), chains.kept()), (Some((4, 2)), 2));
     Ok(())
 }

@@ -1,9 +1,10 @@
 //! Structures of texts.
 
-use crate::{Format, TextFault, structure};
 use chem_core::{BondKind, Mol};
+use mol_finish::{Format, TextFault, structure};
 use molfile_read::MolfileFault;
 use smiles_read::SmilesFault;
+use std::alloc::Global;
 use std::test::Fail;
 
 /// A SMILES and its molecule: a character for each atom or bond.
@@ -180,12 +181,34 @@ fn a_structure_has_three_hundred_components(rt: HostRuntime) -> Result<(), Fail>
     Ok(())
 }
 
+// Whether two texts have the same atoms and bonds.
+fn are_alike(
+    alloc: Global,
+    first: (Format, &str),
+    second: (Format, &str),
+) -> Result<bool, TextFault> {
+    let first = structure(alloc, first.0, first.1.as_bytes())?;
+    let second = structure(alloc, second.0, second.1.as_bytes())?;
+    Ok(first.atoms() == second.atoms() && first.bonds() == second.bonds())
+}
+
 #[test]
-fn refusals(rt: HostRuntime) -> Result<(), Fail> {
-    let kekule = structure(rt.alloc(), Format::Smiles, b"C1=CC=CC=C1")?;
-    let lower = structure(rt.alloc(), Format::Smiles, b"c1ccccc1")?;
-    assert_eq!(rt; kekule.atoms(), lower.atoms());
-    assert_eq!(rt; kekule.bonds(), lower.bonds());
+fn texts_of_one_structure(rt: HostRuntime) -> Result<(), Fail> {
+    let rows = [
+        (
+            (Format::Smiles, "C1=CC=CC=C1"),
+            (Format::Smiles, "c1ccccc1"),
+        ),
+        ((Format::Molfile, ACETATE), (Format::Smiles, "CC(=O)[O-]")),
+    ];
+    for (first, second) in rows {
+        assert!(rt; are_alike(rt.alloc(), first, second)?, "{}", second.1);
+    }
+    Ok(())
+}
+
+#[test]
+fn refusals(rt: HostRuntime) {
     for (format, text, want) in [
         (
             Format::Smiles,
@@ -200,10 +223,9 @@ fn refusals(rt: HostRuntime) -> Result<(), Fail> {
         (Format::Smiles, "C(", TextFault::Smiles(SmilesFault::Syntax)),
         (Format::Molfile, "C", TextFault::Molfile(MolfileFault::Cut)),
     ] {
-        let got = structure(rt.alloc(), format, text.as_bytes()).map(|_| ());
-        assert_eq!(rt; got, Err(want), "at {text}");
+        let fault = structure(rt.alloc(), format, text.as_bytes()).err();
+        assert_eq!(rt; fault, Some(want), "at {text}");
     }
-    Ok(())
 }
 
 const ACETATE: &str = "acetate
@@ -219,12 +241,3 @@ const ACETATE: &str = "acetate
   2  4  1  0
 M  END
 ";
-
-#[test]
-fn a_molfile_has_the_structure_of_its_smiles(rt: HostRuntime) -> Result<(), Fail> {
-    let molfile = structure(rt.alloc(), Format::Molfile, ACETATE.as_bytes())?;
-    let smiles = structure(rt.alloc(), Format::Smiles, b"CC(=O)[O-]")?;
-    assert_eq!(rt; molfile.atoms(), smiles.atoms());
-    assert_eq!(rt; molfile.bonds(), smiles.bonds());
-    Ok(())
-}

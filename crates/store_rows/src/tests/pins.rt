@@ -1,6 +1,6 @@
 //! Pins and their order, worked by hand.
 
-use crate::{MOST_PINS, Registry};
+use snap_registry::{MOST_PINS, Registry};
 
 #[test]
 fn a_slot_that_was_given_back_is_free_again(rt: HostRuntime) {

@@ -1,34 +1,15 @@
-//! Worked examples, by hand.
-use crate::{Atom, Mol, Print, number_of, symbol_of};
+//! Atoms, prints and elements, worked by hand.
+use crate::tests::{CARBON, alone};
+use chem_core::{Print, number_of, symbol_of};
 use std::test::Fail;
 
 // Methane: one atom, no bond.
 #[test]
 fn methane(rt: HostRuntime) -> Result<(), Fail> {
-    let carbon = Atom {
-        number: 6,
-        isotope: 0,
-        charge: 0,
-        hydrogens: 4,
-        aromatic: false,
-        valence: 4,
-    };
-    let atoms = [carbon].to_vec(rt.alloc())?;
-    let smallest = [0].to_vec(rt.alloc())?;
-    let component = [0].to_vec(rt.alloc())?;
-    let mol = Mol::make(
-        rt.alloc(),
-        atoms,
-        Vec::new(rt.alloc()),
-        Vec::new(rt.alloc()),
-        smallest,
-        component,
-    )?;
-    assert_eq!(rt; mol.atoms(), [carbon].as_slice());
-    assert_eq!(rt; mol.bonds().len(), 0);
-    assert_eq!(rt; mol.neighbours(0).len(), 0);
-    assert_eq!(rt; mol.small(0), 0);
-    assert_eq!(rt; mol.component(0), 0);
+    let mol = alone(rt.alloc(), CARBON)?;
+    assert_eq!(rt; mol.atoms(), [CARBON].as_slice());
+    assert!(rt; mol.bonds().is_empty() && mol.neighbours(0).is_empty());
+    assert_eq!(rt; (mol.small(0), mol.component(0)), (0, 0));
     Ok(())
 }
 
