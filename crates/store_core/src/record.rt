@@ -24,13 +24,14 @@ const SHORT: usize = 64;
 /// A text that has a structure, under an identifier of 1 to 999,999,999. It is shared, never copied.
 #[derive(Drop)]
 pub struct Record {
+    // Its structure lies beside the count that a page raises, and its text behind what searches read.
     id: u32,
     format: Format,
     // how many bits are set in the print
     bits: u16,
-    text: SmallVec<u8, SHORT>,
     mol: Mol,
     print: Print,
+    text: SmallVec<u8, SHORT>,
 }
 
 impl Model for Record {
@@ -139,9 +140,9 @@ impl Recorder {
             id,
             format,
             bits: bits_of(&print),
-            text,
             mol,
             print,
+            text,
         };
         match Arc::new(self.alloc, record) {
             Ok(record) => Ok(record),
