@@ -1,13 +1,15 @@
 #!/usr/bin/env bash
 # Registers drug-like structures in a store in a file of FOLDER (/dev/shm, a disk in memory, if left out), revises half of
-# them, and compacts it. Prints the milliseconds of a step, and of all steps beside writing and syncing as many bytes; of
-# opening the store before it and after; and of a commit, alone and beside a running copy.
+# them, and compacts it. Prints the milliseconds of a step, asked for by itself, and of all steps, asked for at once, beside
+# writing and syncing as many bytes; of opening the store before it and after; and of a commit, alone and beside a running
+# copy.
 # Usage: bench/compact.sh [STRUCTURES [FOLDER]]
 set -euo pipefail
 cd "$(dirname "${BASH_SOURCE[0]}")/.."
 ./build
 python3 - "${1:-100000}" "${2:-/dev/shm}" <<'PY'
 import os
+import shutil
 import subprocess
 import sys
 import tempfile
@@ -36,6 +38,15 @@ class Session:
         self.process.stdin.write(line.encode() + b"\n")
         self.process.stdin.flush()
         reply = self.process.stdout.readline().decode().strip()
+        return (time.monotonic() - start) * 1000, reply
+
+    def ask_all(self, lines):
+        """Milliseconds until so many lines are answered that are sent together, and the last reply."""
+        start = time.monotonic()
+        self.process.stdin.write("".join(line + "\n" for line in lines).encode())
+        self.process.stdin.flush()
+        for _ in lines:
+            reply = self.process.stdout.readline().decode().strip()
         return (time.monotonic() - start) * 1000, reply
 
     def end(self):
@@ -83,9 +94,17 @@ with tempfile.TemporaryDirectory(dir=folder) as room:
     run(["init", store], "")
     run(["run", store], script)
     opening = min(run(["run", store], "") for _ in range(3))
+    other = os.path.join(room, "other")
+    for part in ("", ".2"):
+        shutil.copy(store + part, other + part)
     session = Session(store)
     session.ask("stats")
     steps = compacted(session)
+    session.end()
+    session = Session(other)
+    session.ask("stats")
+    together, reply = session.ask_all(["compact"] * len(steps))
+    assert reply.startswith("compacted "), reply
     session.end()
     size = os.path.getsize(store + ".2")
     start = time.monotonic()
@@ -102,7 +121,7 @@ with tempfile.TemporaryDirectory(dir=folder) as room:
     session.ask("compact")
     beside = commits(session, 400)
     session.end()
-print(f"a step: {middle(steps):.2f} ms, at most {max(steps):.2f}; {len(steps)} steps in {sum(steps):.0f} ms; writing {size:,} bytes: {alone:.0f} ms")
+print(f"a step: {middle(steps):.2f} ms, at most {max(steps):.2f}; {len(steps)} steps at once: {together:.0f} ms; writing {size:,} bytes: {alone:.0f} ms")
 print(f"opening before it: {opening:.0f} ms, and after: {after:.0f} ms")
 print(f"a commit: {before:.3f} ms, and beside a copy: {beside:.3f} ms")
 PY

@@ -1,6 +1,6 @@
 #!/usr/bin/env bash
 # Commits drug-like structures to a store in a file, and opens it again; prints durable commits per second beside what the
-# disk does by itself (four writes and two syncs of the same sizes), and the time of opening beside that of registering the
+# disk does by itself (two writes with a sync each), and the time of opening beside that of registering the
 # same texts in memory.
 # Usage: bench/disk.sh [COMMITS [FOLDER]]
 set -euo pipefail

@@ -34,6 +34,9 @@ mod words;
 // The words of a session in memory.
 const MEM: &[&str] = &["mem"];
 
+// A store of one commit.
+const ONE_COMMIT: &[u8] = b"ZCHEMDB1Z\x09\0\0\0\x01\x01\0\0\0\x01CCO\0";
+
 // What a call left of its one end.
 type Answer = Outcome<MemDisk, MemSource, MemSink>;
 

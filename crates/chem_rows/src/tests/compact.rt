@@ -1,14 +1,11 @@
 //! Compactions: what is written, while others work, and where a disk stops or fails at a call of one.
 
-use super::{Answer, PLAIN, call_on, check, put_by};
+use super::{Answer, ONE_COMMIT, PLAIN, call_on, check, put_by};
 use disk_edge::MemDisk;
 use std::alloc::{AllocError, Global};
 use std::sync::Wait;
 use std::test::Fail;
 use std::thread::Threads;
-
-// A store of one commit.
-const ONE_COMMIT: &[u8] = b"ZCHEMDB1Z\x09\0\0\0\x01\x01\0\0\0\x01CCO\0";
 
 // The same store, compacted once: a header, and a base of one record.
 const COMPACTED: &[u8] =

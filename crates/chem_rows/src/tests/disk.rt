@@ -1,5 +1,5 @@
 //! `init` and `run` over disks in memory.
-use super::{Answer, PLAIN, call_on, put_by};
+use super::{Answer, ONE_COMMIT, PLAIN, call_on, put_by};
 use disk_edge::{FileDisk, MemDisk};
 use std::alloc::{AllocError, Global};
 use std::fs;
@@ -7,9 +7,6 @@ use std::process::Abort;
 use std::sync::Wait;
 use std::test::Fail;
 use std::thread::Threads;
-
-// A store of one commit.
-const ONE_COMMIT: &[u8] = b"ZCHEMDB1Z\x09\0\0\0\x01\x01\0\0\0\x01CCO\0";
 
 // `run` of a script over this disk.
 fn run<R: Threads + Wait + Sync>(

@@ -110,6 +110,15 @@ fn words_that_ask_for_nothing(rt: HostRuntime) -> Result<(), Fail> {
             &["bulk", "1", "2", "--commits", "3"],
             "bulk takes no --commits",
         ),
+        (&["drill", "x"], "drill takes no word \"x\""),
+        (
+            &["drill", "--commits", "0"],
+            "--commits is a decimal from 1 to 16777215, not \"0\"",
+        ),
+        (
+            &["drill", "--page", "257"],
+            "--page is a decimal from 1 to 256, not \"257\"",
+        ),
     ];
     for (words, reason) in rows {
         let fault = word_fault(alloc, words)?;

@@ -79,9 +79,10 @@ fn long_lines_are_told(rt: HostRuntime) -> Result<(), Fail> {
             let mut source = MemSource::new(bytes, piece, Vec::new(rt.alloc()));
             let said = answers(rt.alloc(), &mut source, 1_000_000)?;
             if long {
-                assert_eq!(rt; said.as_slice(), b"L|ab|.".as_slice());
+                assert_eq!(rt; said.as_slice(), b"L|ab|.".as_slice(), "{length} {piece}");
             } else {
-                assert_eq!(rt; said.len(), length + 5);
+                let is_whole = said.len() == length + 5 && said.ends_with(b"|ab|.");
+                assert!(rt; is_whole, "{length} {piece}");
             }
         }
     }

@@ -51,7 +51,7 @@ fn a_stop_leaves_the_commit_or_not(rt: HostRuntime) -> Result<(), Fail> {
             )?;
             let version = left[image];
             let replies = format!(in alloc; "1 ok 1\nset\n1 {answer}\nreopened {version}\n")?;
-            assert_eq!(rt; drilled(&rt, alloc, &script)?, replies);
+            assert_eq!(rt; drilled(&rt, alloc, &script)?, replies, "{calls} {image}");
         }
     }
     Ok(())
@@ -90,7 +90,10 @@ fn no_acknowledged_commit_is_lost(rt: HostRuntime) -> Result<(), Fail> {
             let acknowledged = replies.matches("1 ok ").count();
             let least = format!(in alloc; "\nreopened {acknowledged}\n")?;
             let most = format!(in alloc; "\nreopened {}\n", acknowledged + 1)?;
-            assert!(rt; replies.contains(least.as_str()) || replies.contains(most.as_str()));
+            assert!(rt;
+                replies.contains(least.as_str()) || replies.contains(most.as_str()),
+                "{calls} {image}"
+            );
         }
     }
     Ok(())
@@ -155,7 +158,7 @@ fn lines_that_are_none_are_refused(rt: HostRuntime) -> Result<(), Fail> {
             "set\nset\n1 ok 1\nreopened 1\n",
         ),
     ] {
-        assert_eq!(rt; drilled(&rt, alloc, script)?.as_str(), replies);
+        assert_eq!(rt; drilled(&rt, alloc, script)?.as_str(), replies, "{script}");
     }
     Ok(())
 }

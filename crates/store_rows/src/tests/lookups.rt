@@ -94,7 +94,7 @@ fn no_pin_is_free_for_a_lookup(rt: HostRuntime) -> Result<(), Fail> {
     let mut store = Store::fresh(alloc, 10);
     let record = Record::make(alloc, 1, Format::Smiles, b"C")?;
     for _slot in 0..64 {
-        assert!(rt; store.pin().is_ok());
+        assert!(rt; matches!(store.pin(), Ok(Some(_))));
     }
     let told = find_same(alloc, &mut store, &record, 1);
     assert!(rt; matches!(told, Err(SearchFault::Pins)));
