@@ -4,9 +4,9 @@ use Rattle.disk_edge.specs.Disk.{DiskModel, Faulted, IfTold}
 use Rattle.disk_edge.specs.Moments.{AtEachMoment}
 use Rattle.journal_core.specs.Fronts.{IsFront}
 use Rattle.journal_core.specs.Standing.{Standing}
-use Rattle.disk_pair.specs.Gives.{AppendGives, EndsOlder, OnFault}
+use Rattle.disk_pair.specs.Gives.{AppendGives, CurrentStays, EndsOlder, OnFault, PairGoes}
 use Rattle.disk_pair.specs.Pairs.{History, MayShow, PairOpensTo, State, with_commit}
-use Rattle.disk_pair.specs.Puts.{IsOther, IsThere, PutGives, ShowsOne, held}
+use Rattle.disk_pair.specs.Puts.{IsOther, IsThere, OtherMoments, PutGives, ShowsOne, held}
 use Rattle.disk_pair.specs.Stands.{Beside, Has, StandsFor}
 use Rattle.disk_pair.specs.Term.{AtEachPair, Goes, OfEachPair, Paired, disk_of, first_of}
 use Rattle.disk_pair.specs.declared.fault.PutFault.{PutFault}
@@ -19,6 +19,12 @@ use Rattle.disk_pair.proofs.Readings.{Shows}
 
 abbrev pub paired : {D : Type 0} → Standing D → Other D → Bool → Paired D
 paired journal other second = record { journal = journal; other = other; second = second }
+
+-- the pair before a call that takes the other disk out of it
+pub was : {D : Type 0} (old : Paired D) (journal : Standing D) (second : Bool) (inside : Option (Other D))
+    (other : Other D) → paired journal (held journal.disk inside) second ≡ old → inside ≡ Some other
+    → old ≡ paired journal other second
+was old journal second inside other view taken = sym view ∙ (λ i. paired journal (held journal.disk (taken i)) second)
 
 only_may : (s : State) (k : History) → MayShow s k ⊎ ⊥ → MayShow s k
 only_may s k (inl may) = may
@@ -58,9 +64,7 @@ module _ {D : Type 0} (model : DiskModel D) where
   module _ (only_now : (d : D) (c : List ℕ) → model.images_between d (model.clock d) (model.clock d) c
       → model.images d c) (journal : Standing D) (second : Bool) where
     pub other_moments : (other : Other D) (after : D) (s : State) → StandsFor model (paired journal other second) s
-        → (f : Option History)
-        → IfTold (model.content after) (λ _. AtEachMoment model (disk_of other) after
-        (IsOther second s.now.header.generation f))
+        → (f : Option History) → OtherMoments model (disk_of other) after second s.now.header.generation f
         → IfTold (model.content (first_of second journal.disk after))
         (λ _. IfTold (model.content (first_of second after journal.disk)) (λ _.
         AtEachMoment model (first_of second journal.disk (disk_of other)) (first_of second journal.disk after) (λ x.
@@ -71,21 +75,33 @@ module _ {D : Type 0} (model : DiskModel D) where
         (λ l told k told_after x m y n. now_shows (paired journal other second) s st f l told x y
         (only_now journal.disk x m) (moments k told_after y n))
 
-  module _ (journal : Standing D) (second : Bool) (other : Other D) (after : D)
-      (goes : Goes model (disk_of other) after) where
-    pub goes_a : Goes model (first_of second journal.disk (disk_of other)) (first_of second journal.disk after)
-    goes_a = goes_first model second journal.disk journal.disk (disk_of other) after (goes_none model journal.disk) goes
+    pub current_stays : (old : Paired D) (other new : Other D) → old ≡ paired journal other second
+        → ((s : State) → StandsFor model (paired journal other second) s
+        → OtherMoments model (disk_of other) (disk_of new) second s.now.header.generation s.finish)
+        → CurrentStays model old (paired journal new second)
+    current_stays old other new is moments = record {
+      journal = ap (λ (p : Paired D). p.journal) (sym is);
+      second = ap (λ (p : Paired D). p.second) (sym is);
+      moments = rw is (λ s st. other_moments other (disk_of new) s st s.finish (moments s st));
+    }
 
-    pub goes_b : Goes model (first_of second (disk_of other) journal.disk) (first_of second after journal.disk)
-    goes_b = goes_second model second journal.disk journal.disk (disk_of other) after (goes_none model journal.disk) goes
-
-  pub other_cause : (second : Bool) (c o o' : D) (result : Result (Unit {0}) PutFault)
+  other_cause : (second : Bool) (c o o' : D) (result : Result (Unit {0}) PutFault)
       → OnFault result (Faulted model o o')
       → OnFault result (Faulted model (first_of second c o) (first_of second c o')
       ⊎ Faulted model (first_of second o c) (first_of second o' c))
   other_cause second c o o' (Ok _) p = tt
   other_cause second c o o' (Err (DiskFault doubt)) p = other_fault model second c c o o' p
   other_cause second c o o' (Err NoMemory) p = tt
+
+  -- what the call keeps of both disks
+  pub other_goes : (journal : Standing D) (second : Bool) (old : Paired D) (other new : Other D)
+      (result : Result (Unit {0}) PutFault) → old ≡ paired journal other second → Goes model (disk_of other) (disk_of new)
+      → OnFault result (Faulted model (disk_of other) (disk_of new)) → PairGoes model result old (paired journal new second)
+  other_goes journal second old other new result is goes cause = rw is (record {
+    a = goes_first model second journal.disk journal.disk (disk_of other) (disk_of new) (goes_none model journal.disk) goes;
+    b = goes_second model second journal.disk journal.disk (disk_of other) (disk_of new) (goes_none model journal.disk) goes;
+    cause = other_cause second journal.disk (disk_of other) (disk_of new) result cause;
+  })
 
   pub current_cause : (second : Bool) (c c' o o' : D) (result : Result (Unit {0}) PutFault)
       → OnFault result (Faulted model c c')
@@ -186,8 +202,7 @@ module _ {D : Type 0} (model : DiskModel D) (only_now : (d : D) (c : List ℕ)
   }
 
   pub refused_moments : (s : State) → StandsFor model old s → (payload : List ℕ)
-      → IfTold (model.content (disk_of new.other)) (λ _. AtEachMoment model (disk_of old.other) (disk_of new.other)
-      (IsOther old.second s.now.header.generation s.finish))
+      → OtherMoments model (disk_of old.other) (disk_of new.other) old.second s.now.header.generation s.finish
       → AtEachPair model old new (PairOpensTo (λ h. MayShow s h ⊎ (h ≡ with_commit s.now payload)))
   refused_moments s st payload moments = subst (λ (p : Paired D). AtEachPair model old p
       (PairOpensTo (λ h. MayShow s h ⊎ (h ≡ with_commit s.now payload)))) rejoined
@@ -215,8 +230,7 @@ module _ {D : Type 0} (model : DiskModel D) (only_now : (d : D) (c : List ℕ)
   pub done_moments : (after : Standing D) (s : State) (st : StandsFor model old s) (payload : List ℕ)
       → (Has model new.journal st.front s.now.commits s.commit → IfTold (model.content after.disk) (λ _.
       AtEachMoment model new.journal.disk after.disk (ShowsOne st.front s.now.commits s.commit payload)))
-      → IfTold (model.content (disk_of new.other)) (λ _. AtEachMoment model (disk_of old.other) (disk_of new.other)
-      (IsOther old.second s.now.header.generation s.finish))
+      → OtherMoments model (disk_of old.other) (disk_of new.other) old.second s.now.header.generation s.finish
       → AtEachPair model old (paired after new.other old.second)
       (PairOpensTo (λ h. MayShow s h ⊎ (h ≡ with_commit s.now payload)))
   done_moments after s st payload shows moments =

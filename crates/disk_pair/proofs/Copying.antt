@@ -1,23 +1,24 @@
 -- A copy on two disks: its start, its items and its finish, by their answers.
 use Rattle.std.proofs.Common.{◌≡◌, ◌⊎◌, inl, inr, ◌<◌, ◌+◌, Bool, false, true, not, ℕ, List, Option, Some, None, Result, Ok, Err, refl, sym, ◌∙◌, ap, subst, arith}
-use Rattle.disk_edge.specs.Disk.{DiskModel, IfTold}
+use Rattle.disk_edge.specs.Disk.{DiskModel, Faulted, IfTold}
 use Rattle.disk_edge.specs.Moments.{AtEachMoment}
 use Rattle.journal_core.specs.Fronts.{IsFront, front_of}
 use Rattle.journal_core.specs.Journal.{Rests}
 use Rattle.journal_core.specs.Standing.{Standing}
 use Rattle.journal_core.specs.declared.header.Header.{Header}
 use Rattle.compact_core.specs.Carrying.{Carrying}
-use Rattle.disk_pair.specs.Gives.{CopyGives, EndsOlder, FinishGives, StartGives, empty_copy}
+use Rattle.disk_pair.specs.Gives.{CopyGives, CurrentStays, EndsOlder, FinishGives, OnFault, PairGoes, StartGives, empty_copy}
 use Rattle.disk_pair.specs.Pairs.{History, Loses, MayShow, PairOpensTo, State, with_commit}
-use Rattle.disk_pair.specs.Puts.{BesideCopy, BesideFault, BesideStart, IsOther, ShowsDoubt}
+use Rattle.disk_pair.specs.Puts.{BesideCopy, BesideFault, BesideStart, OtherMoments, ShowsDoubt}
 use Rattle.disk_pair.specs.Stands.{Beside, Carries, StandsFor}
-use Rattle.disk_pair.specs.Term.{OfEachPair, Paired, first_of}
+use Rattle.disk_pair.specs.Term.{AtEachPair, Goes, OfEachPair, Paired, disk_of, first_of}
 use Rattle.disk_pair.specs.declared.fault.PutFault.{PutFault}
 use Rattle.disk_pair.specs.declared.fault.PutFault.TheVariants.{DiskFault, NoMemory}
 use Rattle.disk_pair.specs.declared.other.Other.{Other}
 use Rattle.disk_pair.specs.declared.other.Other.TheVariants.{Idle, Copy}
-use Rattle.disk_pair.proofs.Calls.{other_moments, paired, sure_shows}
+use Rattle.disk_pair.proofs.Calls.{current_stays, other_goes, other_moments, paired, sure_shows}
 use Rattle.disk_pair.proofs.Commits.{has_shows}
+use Rattle.disk_pair.proofs.Lifts.{goes_none}
 use Rattle.disk_pair.proofs.Readings.{older_loses}
 
 module _ {D : Type 0} (model : DiskModel D) (journal : Standing D) (second : Bool) (s : State) where
@@ -71,13 +72,13 @@ module _ {D : Type 0} (model : DiskModel D) (journal : Standing D) (second : Boo
 
   -- a call on a running copy
   module _ (carry : Carrying D) (st : StandsFor model (paired journal (Copy carry) second) s) where
-    abbrev pub running : History
+    abbrev running : History
     running = st.other.1.0
 
-    pub runs : Carries model s.now.header.generation carry running
+    runs : Carries model s.now.header.generation carry running
     runs = st.other.1.2
 
-    pub carried : (copy : History) → s.copy ≡ Some copy → Carries model s.now.header.generation carry copy
+    carried : (copy : History) → s.copy ≡ Some copy → Carries model s.now.header.generation carry copy
     carried copy is =
         let same : running ≡ copy = cc (st.other.1.1, is) in
         subst (Carries model s.now.header.generation carry) same runs
@@ -93,8 +94,7 @@ module _ {D : Type 0} (model : DiskModel D) (journal : Standing D) (second : Boo
     as_before copy is new beside = none_now s.copy new
         (subst (λ (c : Option History). Beside model second s.now.header.generation None c new) (sym is) beside)
 
-    pub copy_gives : (copy after : History) → s.copy ≡ Some copy → (new : Other D)
-        (result : Result (Unit {0}) PutFault)
+    copy_gives : (copy after : History) → s.copy ≡ Some copy → (new : Other D) (result : Result (Unit {0}) PutFault)
         → BesideCopy result (λ c. Beside model second s.now.header.generation None c new) copy after
         → CopyGives result (StandsFor model (paired journal new second)) s after
     copy_gives copy after is new (Ok _) beside = none_now (Some after) new beside
@@ -102,16 +102,19 @@ module _ {D : Type 0} (model : DiskModel D) (journal : Standing D) (second : Boo
     copy_gives copy after is new (Err (DiskFault false)) beside = none_now None new beside
     copy_gives copy after is new (Err NoMemory) beside = as_before copy is new beside
 
-    pub fault_gives : (copy : History) → s.copy ≡ Some copy → (new : Other D) (fault : PutFault)
+    fault_gives : (copy : History) → s.copy ≡ Some copy → (new : Other D) (fault : PutFault)
         → BesideFault fault (λ f c. Beside model second s.now.header.generation f c new) copy
         → FinishGives (Err fault) (StandsFor model (paired journal new second)) s copy
     fault_gives copy is new (DiskFault true) beside = restand (Copy carry) new st (Some copy) None beside
     fault_gives copy is new (DiskFault false) beside = none_now None new beside
     fault_gives copy is new NoMemory beside = as_before copy is new beside
 
-    pub no_finish : (y : List ℕ) → IsOther second s.now.header.generation None y
-        → IsOther second s.now.header.generation s.finish y
-    no_finish y = subst (λ (f : Option History). IsOther second s.now.header.generation f y) (sym st.other.0)
+    -- no finish is in doubt while the copy runs
+    copy_moments : (after : D) → (Carries model s.now.header.generation carry running
+        → OtherMoments model carry.disk after second s.now.header.generation None)
+        → OtherMoments model carry.disk after second s.now.header.generation s.finish
+    copy_moments after moments = subst (OtherMoments model carry.disk after second s.now.header.generation)
+        (sym st.other.0) (moments runs)
 
     -- what was the current disk is not read beside the copy
     old_loses : (flag : Bool) (g : ℕ) → s.now.header.generation < g → (x : List ℕ)
@@ -121,7 +124,7 @@ module _ {D : Type 0} (model : DiskModel D) (journal : Standing D) (second : Boo
     old_loses flag g less x (inr doubt) = older_loses flag g (with_commit s.now doubt.0) x
         (record { front = st.front; is = st.is_front; opens = doubt.2 }) less
 
-    pub done_stands : (copy : History) → s.copy ≡ Some copy → (next : Standing D) → next.header ≡ carry.header
+    done_stands : (copy : History) → s.copy ≡ Some copy → (next : Standing D) → next.header ≡ carry.header
         → next.doubt ≡ false → (Carries model s.now.header.generation carry copy
         → IsFront copy.header copy.base (front_of copy.header copy.base)
         × IfTold (model.content next.disk) (λ _. Rests model next (front_of copy.header copy.base) copy.commits))
@@ -150,10 +153,10 @@ module _ {D : Type 0} (model : DiskModel D) (journal : Standing D) (second : Boo
     may_finish copy k is (inr (inr same)) = inr (is ∙ same)
 
     -- at a moment of a finish
-    pub finish_moments : (only_now : (d : D) (c : List ℕ) → model.images_between d (model.clock d) (model.clock d) c
+    finish_moments : (only_now : (d : D) (c : List ℕ) → model.images_between d (model.clock d) (model.clock d) c
         → model.images d c) (after : D)
-        → (Carries model s.now.header.generation carry running → IfTold (model.content after)
-        (λ _. AtEachMoment model carry.disk after (IsOther second s.now.header.generation (Some running))))
+        → (Carries model s.now.header.generation carry running
+        → OtherMoments model carry.disk after second s.now.header.generation (Some running))
         → IfTold (model.content (first_of second journal.disk after))
         (λ _. IfTold (model.content (first_of second after journal.disk)) (λ _.
         AtEachMoment model (first_of second journal.disk carry.disk) (first_of second journal.disk after) (λ x.
@@ -164,15 +167,15 @@ module _ {D : Type 0} (model : DiskModel D) (journal : Standing D) (second : Boo
         l told k told_other x m y n in
         (shown.0, may_finish running shown.0 st.other.1.1 shown.1, shown.2)
 
-  -- at Ok each pair of images opens to the copy
-  pub finish_sure : (copy : History) (pair : Paired D)
-      → StandsFor model pair (record { now = copy; commit = None; finish = None; copy = None })
-      → OfEachPair model pair (PairOpensTo (λ h. h ≡ copy))
-  finish_sure copy pair st =
-      sure_shows model pair (record { now = copy; commit = None; finish = None; copy = None }) refl refl st
+-- at Ok each pair of images opens to the copy
+pub finish_sure : {D : Type 0} (model : DiskModel D) (copy : History) (pair : Paired D)
+    → StandsFor model pair (record { now = copy; commit = None; finish = None; copy = None })
+    → OfEachPair model pair (PairOpensTo (λ h. h ≡ copy))
+finish_sure model copy pair st =
+    sure_shows model pair (record { now = copy; commit = None; finish = None; copy = None }) refl refl st
 
 -- where the roles are changed
-pub turned_moments : {D : Type 0} (model : DiskModel D) (second : Bool) (c o after : D)
+turned_moments : {D : Type 0} (model : DiskModel D) (second : Bool) (c o after : D)
     (P : List ℕ → List ℕ → Type 0)
     → IfTold (model.content (first_of second c after)) (λ _. IfTold (model.content (first_of second after c)) (λ _.
     AtEachMoment model (first_of second c o) (first_of second c after) (λ x.
@@ -183,3 +186,79 @@ pub turned_moments : {D : Type 0} (model : DiskModel D) (second : Bool) (c o aft
     AtEachMoment model (first_of second o c) (first_of (not second) c after) (λ y. P x y))))
 turned_moments model false c o after P f = f
 turned_moments model true c o after P f = f
+
+turned_goes : {D : Type 0} (model : DiskModel D) (journal next : Standing D) (second : Bool) (carry : Carrying D)
+    → Goes model carry.disk next.disk
+    → PairGoes model (Ok tt) (paired journal (Copy carry) second) (paired next (Idle journal.disk false) (not second))
+turned_goes model journal next false carry goes = record { a = goes_none model journal.disk; b = goes; cause = tt }
+turned_goes model journal next true carry goes = record { a = goes; b = goes_none model journal.disk; cause = tt }
+
+-- what a call on two disks leaves that adds to the running copy
+pub record Adds {D : Type 0} (model : DiskModel D) (result : Result (Unit {0}) PutFault) (old new : Paired D)
+    (P : History → Type 0) (longer : History → History) : Type 0 where
+  pub gives : (s : State) (copy : History) → StandsFor model old s → s.copy ≡ Some copy → P copy
+      → CopyGives result (StandsFor model new) s (longer copy)
+  pub current : CurrentStays model old new
+  pub goes : PairGoes model result old new
+
+-- what a finish leaves
+pub record Ends {D : Type 0} (model : DiskModel D) (result : Result (Unit {0}) PutFault) (old new : Paired D) : Type 0 where
+  pub gives : (s : State) (copy : History) → StandsFor model old s → s.copy ≡ Some copy
+      → FinishGives result (StandsFor model new) s copy
+  pub moments : (s : State) → StandsFor model old s
+      → AtEachPair model old new (PairOpensTo (λ h. MayShow s h ⊎ (s.copy ≡ Some h)))
+  pub goes : PairGoes model result old new
+
+-- A call on the running copy, by what it leaves on the other disk.
+module _ {D : Type 0} (model : DiskModel D) (only_now : (d : D) (c : List ℕ)
+    → model.images_between d (model.clock d) (model.clock d) c → model.images d c) (old : Paired D)
+    (journal : Standing D) (second : Bool) (carry : Carrying D) (is : old ≡ paired journal (Copy carry) second) where
+  pub adds : (P : History → Type 0) (longer : History → History) (new : Other D) (result : Result (Unit {0}) PutFault)
+      → ((second : Bool) (g : ℕ) (h : History) → P h → Carries model g carry h
+      → BesideCopy result (λ copy. Beside model second g None copy new) h (longer h))
+      → ((second : Bool) (g : ℕ) (h : History) → Carries model g carry h
+      → OtherMoments model carry.disk (disk_of new) second g None)
+      → Goes model carry.disk (disk_of new) → OnFault result (Faulted model carry.disk (disk_of new))
+      → Adds model result old (paired journal new second) P longer
+  adds P longer new result gives moments goes cause = record {
+    gives = rw is (λ s copy st has p.
+        copy_gives model journal second s carry st copy (longer copy) has new result
+        (gives second s.now.header.generation copy p (carried model journal second s carry st copy has)));
+    current = current_stays model only_now journal second old (Copy carry) new is (λ s st.
+        copy_moments model journal second s carry st (disk_of new)
+        (moments second s.now.header.generation (running model journal second s carry st)));
+    goes = other_goes model journal second old (Copy carry) new result is goes cause;
+  }
+
+  pub refused_finish : (new : Other D) (fault : PutFault)
+      → ((second : Bool) (g : ℕ) (h : History) → Carries model g carry h
+      → BesideFault fault (λ finish copy. Beside model second g finish copy new) h)
+      → ((second : Bool) (g : ℕ) (h : History) → Carries model g carry h
+      → OtherMoments model carry.disk (disk_of new) second g (Some h))
+      → Goes model carry.disk (disk_of new) → OnFault (Err fault) (Faulted model carry.disk (disk_of new))
+      → Ends model (Err fault) old (paired journal new second)
+  refused_finish new fault gives moments goes cause = record {
+    gives = rw is (λ s copy st has. fault_gives model journal second s carry st copy has new fault
+        (gives second s.now.header.generation copy (carried model journal second s carry st copy has)));
+    moments = rw is (λ s st. finish_moments model journal second s carry st only_now (disk_of new)
+        (moments second s.now.header.generation (running model journal second s carry st)));
+    goes = other_goes model journal second old (Copy carry) new (Err fault) is goes cause;
+  }
+
+  -- the disks change places
+  pub finished : (next : Standing D) (new : Paired D) → paired next (Idle journal.disk false) (not second) ≡ new
+      → next.header ≡ carry.header → next.doubt ≡ false
+      → ((g : ℕ) (h : History) → Carries model g carry h → IsFront h.header h.base (front_of h.header h.base)
+      × IfTold (model.content next.disk) (λ _. Rests model next (front_of h.header h.base) h.commits))
+      → ((second : Bool) (g : ℕ) (h : History) → Carries model g carry h
+      → OtherMoments model carry.disk next.disk second g (Some h))
+      → Goes model carry.disk next.disk → Ends model (Ok tt) old new
+  finished next new turned header sure whole moments goes = subst (Ends model (Ok tt) old) turned (record {
+    gives = rw is (λ s copy st has. done_stands model journal second s carry st copy has next header sure
+        (whole s.now.header.generation copy) (not second));
+    moments = rw is (λ s st. turned_moments model second journal.disk carry.disk next.disk
+        (PairOpensTo (λ (h : History). MayShow s h ⊎ (s.copy ≡ Some h)))
+        (finish_moments model journal second s carry st only_now next.disk
+        (moments second s.now.header.generation (running model journal second s carry st))));
+    goes = rw is (turned_goes model journal next second carry goes);
+  })

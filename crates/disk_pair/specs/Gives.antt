@@ -1,8 +1,10 @@
 -- What a call on two disks leaves, by its answer. For callers.
 use Rattle.std.specs.Prelude.{◌≡◌, ◌⊎◌, [], Err, false, List, None, Ok, Option, Result, Some, true, ℕ}
+use Rattle.disk_edge.specs.Disk.{DiskModel, Faulted}
 use Rattle.journal_core.specs.declared.header.Header.{Header}
-use Rattle.disk_pair.specs.Pairs.{History, State, with_commit}
-use Rattle.disk_pair.specs.Term.{Progress}
+use Rattle.disk_pair.specs.Pairs.{History, MayShow, PairOpensTo, State, with_commit}
+use Rattle.disk_pair.specs.Stands.{StandsFor}
+use Rattle.disk_pair.specs.Term.{AtEachPair, Goes, Paired, Progress, disk_a, disk_b}
 use Rattle.disk_pair.specs.declared.fault.PutFault.{PutFault}
 use Rattle.disk_pair.specs.declared.fault.PutFault.TheVariants.{DiskFault, NoMemory}
 
@@ -58,3 +60,17 @@ abbrev pub OnFault : Result (Unit {0}) PutFault → Type 0 → Type 0
 OnFault (Ok _) P = Unit {0}
 OnFault (Err (DiskFault doubt)) P = P
 OnFault (Err NoMemory) P = Unit {0}
+
+-- What each call keeps of the two disks. At a fault of a disk one of them counted it.
+pub record PairGoes {D : Type 0} (model : DiskModel D) (result : Result (Unit {0}) PutFault) (old new : Paired D)
+    : Type 0 where
+  pub a : Goes model (disk_a old) (disk_a new)
+  pub b : Goes model (disk_b old) (disk_b new)
+  pub cause : OnFault result (Faulted model (disk_a old) (disk_a new) ⊎ Faulted model (disk_b old) (disk_b new))
+
+-- A call on the other disk alone: the journal stays, and so does which disk is current. A crash at each moment of it
+-- leaves a history that may be there.
+pub record CurrentStays {D : Type 0} (model : DiskModel D) (old new : Paired D) : Type 0 where
+  pub journal : new.journal ≡ old.journal
+  pub second : new.second ≡ old.second
+  pub moments : (s : State) → StandsFor model old s → AtEachPair model old new (PairOpensTo (MayShow s))

@@ -1,11 +1,15 @@
 -- What one call on one of the two disks leaves there. For private clauses alone.
-use Rattle.std.specs.Prelude.{◌≡◌, ◌⊎◌, ◌<◌, ◌++◌, Bool, Err, false, List, [], ◌∷◌, None, Ok, Option, Result, Some, true, ℕ}
+use Rattle.std.specs.Prelude.{◌≡◌, ◌⊎◌, ◌<◌, ◌++◌, Bool, Err, false, List, [], ◌∷◌, None, Ok, OnErr, OnOk, Option, Result, Some, true, ℕ}
+use Rattle.disk_edge.specs.Disk.{DiskModel, Faulted, IfTold, OnFailed}
+use Rattle.disk_edge.specs.Moments.{AtEachMoment}
+use Rattle.disk_edge.specs.declared.disk.DiskFail.{DiskFail}
 use Rattle.journal_core.specs.Records.{Opens}
 use Rattle.journal_core.specs.Standing.{Standing}
 use Rattle.journal_core.specs.declared.header.Header.{Header}
 use Rattle.disk_pair.specs.Gives.{empty_copy}
-use Rattle.disk_pair.specs.Term.{disk_of}
 use Rattle.disk_pair.specs.Pairs.{History, Loses, OpensAs}
+use Rattle.disk_pair.specs.Stands.{Beside}
+use Rattle.disk_pair.specs.Term.{Goes, disk_of, progress_of}
 use Rattle.disk_pair.specs.declared.other.Other.{Other}
 use Rattle.disk_pair.specs.declared.other.Other.TheVariants.{Idle}
 use Rattle.disk_pair.specs.declared.fault.PutFault.{PutFault}
@@ -34,6 +38,23 @@ ShowsOne front ps doubt payload image = ShowsDoubt front ps doubt image ⊎ Open
 abbrev pub IsOther : Bool → ℕ → Option History → List ℕ → Type 0
 IsOther second g finish y = ((v : History) × (finish ≡ Some v) × (g < v.header.generation) × OpensAs v y)
     ⊎ Loses second g y
+
+-- what an image of the other disk is at each moment of a call, where that disk tells its content
+abbrev pub OtherMoments : {D : Type 0} → DiskModel D → D → D → Bool → ℕ → Option History → Type 0
+OtherMoments model old new second g finish = IfTold (model.content new) (λ _. AtEachMoment model old new (IsOther second g finish))
+
+-- What a call that ends a finish in doubt leaves of the other disk. A running copy goes on.
+pub record EndsFinish {D : Type 0} (model : DiskModel D) (result : Result (Unit {0}) DiskFail) (old new : Other D)
+    : Type 0 where
+  pub ok : OnOk result ((second : Bool) (g : ℕ) (finish copy : Option History)
+      → Beside model second g finish copy old → Beside model second g None copy new)
+  pub err : OnErr result ((second : Bool) (g : ℕ) (finish copy : Option History)
+      → Beside model second g finish copy old → Beside model second g finish copy new)
+  pub moments : (second : Bool) (g : ℕ) (finish copy : Option History) → Beside model second g finish copy old
+      → OtherMoments model (disk_of old) (disk_of new) second g finish
+  pub progress : progress_of new ≡ progress_of old
+  pub goes : Goes model (disk_of old) (disk_of new)
+  pub cause : OnFailed result (Faulted model (disk_of old) (disk_of new))
 
 -- what the other disk has after a start: B of the finish in doubt and the running copy
 abbrev pub BesideStart : Result (Unit {0}) PutFault → (Option History → Option History → Type 0) → Option History

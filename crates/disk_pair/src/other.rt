@@ -1,14 +1,13 @@
 //! The disk beside the current one. It is idle, and a finish may be in doubt on it, or a copy runs on it.
 
-ghost use Rattle.std.specs.Prelude.{◌≡◌, ◌<◌, ◌≤◌, ◌+◌, ◌^◌, ◌⊎◌, [], Bool, false, List, length, None, OnErr, OnOk, IfErr, IfOk, Option, Some, true, ℕ};
-ghost use Rattle.disk_edge.specs.Disk.{Faulted, IfTold, OnFailed};
-ghost use Rattle.disk_edge.specs.Moments.{AtEachMoment};
-ghost use Rattle.journal_core.specs.Fronts.{IsFront, IsHeader, front_of};
+ghost use Rattle.std.specs.Prelude.{◌≡◌, ◌<◌, ◌≤◌, ◌+◌, ◌^◌, [], Bool, false, length, None, IfErr, IfOk, Option, Some, true, ℕ};
+ghost use Rattle.disk_edge.specs.Disk.{Faulted, IfTold};
+ghost use Rattle.journal_core.specs.Fronts.{IsFront, front_of};
 ghost use Rattle.journal_core.specs.Journal.{Rests};
 ghost use Rattle.journal_core.specs.Records.{IsShort};
 ghost use Rattle.disk_pair.specs.Gives.{OnFault, progress_after};
 ghost use Rattle.disk_pair.specs.Pairs.{History, with_base, with_commit};
-ghost use Rattle.disk_pair.specs.Puts.{BesideCopy, BesideFault, BesideStart, IsOther, after_finish};
+ghost use Rattle.disk_pair.specs.Puts.{BesideCopy, BesideFault, BesideStart, EndsFinish, OtherMoments, after_finish};
 ghost use Rattle.disk_pair.specs.Stands.{Beside, Carries};
 ghost use Rattle.disk_pair.specs.Term.{Goes, disk_of, progress_of};
 ghost use Rattle.disk_pair.specs.declared.other.Other.TheVariants.{Idle, Copy};
@@ -43,19 +42,7 @@ impl<D: Disk> Other<D> {
 
 /// Ends a finish that may be in doubt. A running copy goes on.
 pub(crate) fn end_finish<D: Disk>(other: Other<D>) -> (Other<D>, Result<(), DiskFail>)
-    ensures ok { OnOk result.1 ((second : Bool) (g : ℕ) (finish copy : Option History)
-        → Beside D.model second g finish copy other
-        → Beside D.model second g None copy result.0) }
-    ensures err { OnErr result.1 ((second : Bool) (g : ℕ) (finish copy : Option History)
-        → Beside D.model second g finish copy other
-        → Beside D.model second g finish copy result.0) }
-    ensures moments { (second : Bool) (g : ℕ) (finish copy : Option History)
-        → Beside D.model second g finish copy other
-        → IfTold (D.model.content (disk_of result.0)) (λ _.
-        AtEachMoment D.model (disk_of other) (disk_of result.0) (IsOther second g finish)) }
-    ensures progress { progress_of result.0 ≡ progress_of other }
-    ensures goes { Goes D.model (disk_of other) (disk_of result.0) }
-    ensures cause { OnFailed result.1 (Faulted D.model (disk_of other) (disk_of result.0)) }
+    ensures { EndsFinish D.model result.1 other result.0 }
 {
     match other {
         Other::Idle {
@@ -78,19 +65,7 @@ pub(crate) fn end_finish<D: Disk>(other: Other<D>) -> (Other<D>, Result<(), Disk
 
 // Shuts a disk on which a finish may be in doubt.
 fn end_doubt<D: Disk>(disk: D) -> (Other<D>, Result<(), DiskFail>)
-    ensures ok { OnOk result.1 ((second : Bool) (g : ℕ) (finish copy : Option History)
-        → Beside D.model second g finish copy (Idle disk true)
-        → Beside D.model second g None copy result.0) }
-    ensures err { OnErr result.1 ((second : Bool) (g : ℕ) (finish copy : Option History)
-        → Beside D.model second g finish copy (Idle disk true)
-        → Beside D.model second g finish copy result.0) }
-    ensures moments { (second : Bool) (g : ℕ) (finish copy : Option History)
-        → Beside D.model second g finish copy (Idle disk true)
-        → IfTold (D.model.content (disk_of result.0)) (λ _.
-        AtEachMoment D.model disk (disk_of result.0) (IsOther second g finish)) }
-    ensures progress { progress_of result.0 ≡ None }
-    ensures goes { Goes D.model disk (disk_of result.0) }
-    ensures cause { OnFailed result.1 (Faulted D.model disk (disk_of result.0)) }
+    ensures { EndsFinish D.model result.1 (Idle disk true) result.0 }
 {
     let mut disk = disk;
     match shut(&mut disk) {
@@ -124,8 +99,7 @@ pub(crate) fn start<D: Disk>(
         finish header }
     ensures moments { (second : Bool) (g : ℕ) (finish : Option History)
         → Beside D.model second g finish None (Idle disk doubtful)
-        → IfTold (D.model.content (disk_of result.0)) (λ _.
-        AtEachMoment D.model disk (disk_of result.0) (IsOther second g finish)) }
+        → OtherMoments D.model disk (disk_of result.0) second g finish }
     ensures progress { progress_of result.0 ≡ progress_after result.1 None
         (Some (record { header = header; place = 20; bases = 0 })) }
     ensures goes { Goes D.model disk (disk_of result.0) }
@@ -155,8 +129,7 @@ pub(crate) fn put_base<D: Disk>(carry: Carry<D>, payload: &[u8]) -> (Other<D>, R
         → BesideCopy result.1 (λ copy. Beside D.model second g None copy result.0)
         h (with_base h payload.now) }
     ensures moments { (second : Bool) (g : ℕ) (h : History) → Carries D.model g carry h
-        → IfTold (D.model.content (disk_of result.0)) (λ _.
-        AtEachMoment D.model carry.disk (disk_of result.0) (IsOther second g None)) }
+        → OtherMoments D.model carry.disk (disk_of result.0) second g None }
     ensures progress { progress_of result.0 ≡ progress_after result.1
         (progress_of (Copy carry)) (Some (record {
           header = carry.header;
@@ -185,8 +158,7 @@ pub(crate) fn add<D: Disk>(carry: Carry<D>, payload: &[u8]) -> (Other<D>, Result
         → BesideCopy result.1 (λ copy. Beside D.model second g None copy result.0)
         h (with_commit h payload.now) }
     ensures moments { (second : Bool) (g : ℕ) (h : History) → Carries D.model g carry h
-        → IfTold (D.model.content (disk_of result.0)) (λ _.
-        AtEachMoment D.model carry.disk (disk_of result.0) (IsOther second g None)) }
+        → OtherMoments D.model carry.disk (disk_of result.0) second g None }
     ensures progress { progress_of result.0 ≡ progress_after result.1
         (progress_of (Copy carry)) (Some (record {
           header = carry.header;
@@ -230,8 +202,7 @@ pub(crate) fn finish<D: Disk>(carry: Carry<D>) -> Result<Journal<D>, (Other<D>, 
         → Carries D.model g carry h
         → BesideFault e.1 (λ finish copy. Beside D.model second g finish copy e.0) h) }
     ensures moments { (second : Bool) (g : ℕ) (h : History) → Carries D.model g carry h
-        → IfTold (D.model.content (after_finish result)) (λ _.
-        AtEachMoment D.model carry.disk (after_finish result) (IsOther second g (Some h))) }
+        → OtherMoments D.model carry.disk (after_finish result) second g (Some h) }
     ensures progress { IfErr result (λ e. progress_of e.0
         ≡ progress_after (Err e.1) (progress_of (Copy carry)) None) }
     ensures goes { Goes D.model carry.disk (after_finish result) }

@@ -2,16 +2,14 @@
 //! that no crash undoes: a finish that may be in doubt is ended first, since the copy lacks the commit; then the
 //! journal takes it.
 
-ghost use Rattle.std.specs.Prelude.{◌≡◌, ◌<◌, ◌≤◌, ◌+◌, ◌^◌, ◌⊎◌, [], Bool, Option, false, true, ℕ, List, Some, None, length, not, is_some, OnErr, OnOk};
-ghost use Rattle.disk_edge.specs.Disk.{Faulted, IfTold, OnFailed};
-ghost use Rattle.disk_edge.specs.Moments.{AtEachMoment};
+ghost use Rattle.std.specs.Prelude.{◌≡◌, ◌<◌, ◌≤◌, ◌+◌, ◌^◌, ◌⊎◌, [], Option, false, true, Some, None, length, not, is_some, OnErr, OnOk};
 ghost use Rattle.journal_core.specs.Records.{IsShort};
 ghost use Rattle.disk_pair.specs.Changed.{changed};
-ghost use Rattle.disk_pair.specs.Gives.{AppendGives, CopyGives, FinishGives, OnFault, StartGives, progress_after};
+ghost use Rattle.disk_pair.specs.Gives.{AppendGives, CopyGives, CurrentStays, FinishGives, PairGoes, StartGives, progress_after};
 ghost use Rattle.disk_pair.specs.Pairs.{History, MayShow, PairOpensTo, State, with_base, with_commit};
-ghost use Rattle.disk_pair.specs.Puts.{IsOther};
-ghost use Rattle.disk_pair.specs.Stands.{Beside, StandsFor};
-ghost use Rattle.disk_pair.specs.Term.{AtEachPair, Goes, HasRoom, IsBased, LacksBase, OfEachPair, disk_a, disk_b, disk_of, first_of, further, next_header, progress_of};
+ghost use Rattle.disk_pair.specs.Puts.{EndsFinish};
+ghost use Rattle.disk_pair.specs.Stands.{StandsFor};
+ghost use Rattle.disk_pair.specs.Term.{AtEachPair, HasRoom, IsBased, LacksBase, OfEachPair, disk_a, disk_b, first_of, further, next_header, progress_of};
 ghost use Rattle.disk_pair.specs.declared.other.Other.TheVariants.{Idle};
 
 use crate::choice::Which;
@@ -85,10 +83,7 @@ impl<D: Disk + Drop> Pair<D> {
         ensures moments { (s : State) → StandsFor D.model self.old s
             → AtEachPair D.model self.old self.new
             (PairOpensTo (λ h. MayShow s h ⊎ (h ≡ with_commit s.now payload.now))) }
-        ensures a { Goes D.model (disk_a self.old) (disk_a self.new) }
-        ensures b { Goes D.model (disk_b self.old) (disk_b self.new) }
-        ensures cause { OnFault result (Faulted D.model (disk_a self.old) (disk_a self.new)
-            ⊎ Faulted D.model (disk_b self.old) (disk_b self.new)) }
+        ensures goes { PairGoes D.model result self.old self.new }
         ensures moved { OnOk result
             (self.new.journal.place ≡ self.old.journal.place + 5 + length payload.now) }
         ensures stays { OnErr result (self.new.journal.place ≡ self.old.journal.place) }
@@ -113,19 +108,13 @@ impl<D: Disk + Drop> Pair<D> {
         ensures gives { (s : State) → StandsFor D.model self.old s
             → StartGives result (StandsFor D.model self.new) s
             (next_header self.old.journal.header base_version base_count) }
-        ensures moments { (s : State) → StandsFor D.model self.old s
-            → AtEachPair D.model self.old self.new (PairOpensTo (MayShow s)) }
-        ensures a { Goes D.model (disk_a self.old) (disk_a self.new) }
-        ensures b { Goes D.model (disk_b self.old) (disk_b self.new) }
-        ensures cause { OnFault result (Faulted D.model (disk_a self.old) (disk_a self.new)
-            ⊎ Faulted D.model (disk_b self.old) (disk_b self.new)) }
+        ensures current { CurrentStays D.model self.old self.new }
+        ensures goes { PairGoes D.model result self.old self.new }
         ensures progress { progress_of self.new.other ≡ progress_after result None (Some (record {
           header = next_header self.old.journal.header base_version base_count;
           place = 20;
           bases = 0;
         })) }
-        ensures journal { self.new.journal ≡ self.old.journal }
-        ensures second { self.new.second ≡ self.old.second }
     {
         let header = Header {
             generation: self.journal.header().generation + 1,
@@ -151,17 +140,11 @@ impl<D: Disk + Drop> Pair<D> {
         ensures gives { (s : State) (copy : History) → StandsFor D.model self.old s
             → s.copy ≡ Some copy → copy.commits ≡ []
             → CopyGives result (StandsFor D.model self.new) s (with_base copy payload.now) }
-        ensures moments { (s : State) → StandsFor D.model self.old s
-            → AtEachPair D.model self.old self.new (PairOpensTo (MayShow s)) }
-        ensures a { Goes D.model (disk_a self.old) (disk_a self.new) }
-        ensures b { Goes D.model (disk_b self.old) (disk_b self.new) }
-        ensures cause { OnFault result (Faulted D.model (disk_a self.old) (disk_a self.new)
-            ⊎ Faulted D.model (disk_b self.old) (disk_b self.new)) }
+        ensures current { CurrentStays D.model self.old self.new }
+        ensures goes { PairGoes D.model result self.old self.new }
         ensures progress { progress_of self.new.other ≡ progress_after result
             (progress_of self.old.other)
             (further (4 + length payload.now) 1 (progress_of self.old.other)) }
-        ensures journal { self.new.journal ≡ self.old.journal }
-        ensures second { self.new.second ≡ self.old.second }
     {
         let Some(Other::Copy(carry)) = self.other.take() else {
             unreachable!()
@@ -182,17 +165,11 @@ impl<D: Disk + Drop> Pair<D> {
         ensures gives { (s : State) (copy : History) → StandsFor D.model self.old s
             → s.copy ≡ Some copy
             → CopyGives result (StandsFor D.model self.new) s (with_commit copy payload.now) }
-        ensures moments { (s : State) → StandsFor D.model self.old s
-            → AtEachPair D.model self.old self.new (PairOpensTo (MayShow s)) }
-        ensures a { Goes D.model (disk_a self.old) (disk_a self.new) }
-        ensures b { Goes D.model (disk_b self.old) (disk_b self.new) }
-        ensures cause { OnFault result (Faulted D.model (disk_a self.old) (disk_a self.new)
-            ⊎ Faulted D.model (disk_b self.old) (disk_b self.new)) }
+        ensures current { CurrentStays D.model self.old self.new }
+        ensures goes { PairGoes D.model result self.old self.new }
         ensures progress { progress_of self.new.other ≡ progress_after result
             (progress_of self.old.other)
             (further (5 + length payload.now) 0 (progress_of self.old.other)) }
-        ensures journal { self.new.journal ≡ self.old.journal }
-        ensures second { self.new.second ≡ self.old.second }
     {
         let Some(Other::Copy(carry)) = self.other.take() else {
             unreachable!()
@@ -217,10 +194,7 @@ impl<D: Disk + Drop> Pair<D> {
         ensures moments { (s : State) → StandsFor D.model self.old s
             → AtEachPair D.model self.old self.new
             (PairOpensTo (λ h. MayShow s h ⊎ (s.copy ≡ Some h))) }
-        ensures a { Goes D.model (disk_a self.old) (disk_a self.new) }
-        ensures b { Goes D.model (disk_b self.old) (disk_b self.new) }
-        ensures cause { OnFault result (Faulted D.model (disk_a self.old) (disk_a self.new)
-            ⊎ Faulted D.model (disk_b self.old) (disk_b self.new)) }
+        ensures goes { PairGoes D.model result self.old self.new }
         ensures moved { OnOk result (progress_of self.old.other ≡ Some (record {
           header = self.new.journal.header;
           place = self.new.journal.place;
@@ -283,21 +257,7 @@ impl<D: Disk + Drop> Pair<D> {
 
     // Ends a finish that may be in doubt.
     fn end_finish(&mut self) -> Result<(), DiskFail>
-        ensures ok { OnOk result ((second : Bool) (g : ℕ) (finish copy : Option History)
-            → Beside D.model second g finish copy self.old.other
-            → Beside D.model second g None copy self.new.other) }
-        ensures err { OnErr result ((second : Bool) (g : ℕ) (finish copy : Option History)
-            → Beside D.model second g finish copy self.old.other
-            → Beside D.model second g finish copy self.new.other) }
-        ensures moments { (second : Bool) (g : ℕ) (finish copy : Option History)
-            → Beside D.model second g finish copy self.old.other
-            → IfTold (D.model.content (disk_of self.new.other))
-            (λ _. AtEachMoment D.model (disk_of self.old.other) (disk_of self.new.other)
-            (IsOther second g finish)) }
-        ensures progress { progress_of self.new.other ≡ progress_of self.old.other }
-        ensures goes { Goes D.model (disk_of self.old.other) (disk_of self.new.other) }
-        ensures cause { OnFailed result
-            (Faulted D.model (disk_of self.old.other) (disk_of self.new.other)) }
+        ensures ends { EndsFinish D.model result self.old.other self.new.other }
         ensures journal { self.new.journal ≡ self.old.journal }
         ensures second { self.new.second ≡ self.old.second }
     {

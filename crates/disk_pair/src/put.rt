@@ -1,12 +1,13 @@
 //! A payload is put into the journal, and an older doubt is ended first.
 
-ghost use Rattle.std.specs.Prelude.{◌≡◌, ◌<◌, ◌≤◌, ◌+◌, ◌^◌, ◌++◌, [], ◌∷◌, List, None, OnErr, OnOk, Option, false, length, true, ℕ};
-ghost use Rattle.disk_edge.specs.Disk.{Counted, Faulted, IfTold, Keeps, OnFailed};
+ghost use Rattle.std.specs.Prelude.{◌≡◌, ◌<◌, ◌≤◌, ◌+◌, ◌^◌, List, None, OnErr, OnOk, Option, false, length, true, ℕ};
+ghost use Rattle.disk_edge.specs.Disk.{Faulted, IfTold, OnFailed};
 ghost use Rattle.disk_edge.specs.Moments.{AtEachMoment};
 ghost use Rattle.journal_core.specs.Records.{IsShort};
 ghost use Rattle.disk_pair.specs.Stands.{Has};
 ghost use Rattle.disk_pair.specs.Gives.{OnFault};
 ghost use Rattle.disk_pair.specs.Puts.{PutGives, ShowsDoubt, ShowsOne};
+ghost use Rattle.disk_pair.specs.Term.{Goes};
 
 use crate::fault::PutFault;
 use disk_edge::{Disk, DiskFail};
@@ -26,10 +27,8 @@ pub(crate) fn put<D: Disk>(journal: &mut Journal<D>, payload: &[u8]) -> Result<(
         → Has D.model journal.old front ps doubt
         → IfTold (D.model.content journal.new.disk) (λ _. AtEachMoment D.model
         journal.old.disk journal.new.disk (ShowsOne front ps doubt payload.now)) }
-    ensures past { Keeps D.model journal.old.disk journal.new.disk }
-    ensures untold { D.model.content journal.old.disk ≡ None → D.model.content journal.new.disk ≡ None }
+    ensures goes { Goes D.model journal.old.disk journal.new.disk }
     ensures cause { OnFault result (Faulted D.model journal.old.disk journal.new.disk) }
-    ensures count { Counted D.model journal.old.disk journal.new.disk }
     ensures ready { journal.new.ready ≡ true }
     ensures header { journal.new.header ≡ journal.old.header }
     ensures moved { OnOk result (journal.new.place ≡ journal.old.place + 5 + length payload.now) }
@@ -62,11 +61,9 @@ fn settle<D: Disk>(journal: &mut Journal<D>) -> Result<(), DiskFail>
         → Has D.model journal.old front ps doubt
         → IfTold (D.model.content journal.new.disk) (λ _. AtEachMoment D.model
         journal.old.disk journal.new.disk (ShowsDoubt front ps doubt)) }
-    ensures past { Keeps D.model journal.old.disk journal.new.disk }
-    ensures untold { D.model.content journal.old.disk ≡ None → D.model.content journal.new.disk ≡ None }
+    ensures goes { Goes D.model journal.old.disk journal.new.disk }
     ensures settled { OnOk result (journal.new.doubt ≡ false) }
     ensures cause { OnFailed result (Faulted D.model journal.old.disk journal.new.disk) }
-    ensures count { Counted D.model journal.old.disk journal.new.disk }
     ensures ready { journal.new.ready ≡ true }
     ensures header { journal.new.header ≡ journal.old.header }
     ensures place { journal.new.place ≡ journal.old.place }

@@ -15,7 +15,7 @@ returns-in-Err-Failed-clause-gives g c s st =
     let old = c.args.self.now in
     refused_append d g.met.D.Disk.only_now old c.end_finish.new.self c.end_finish.ensures.journal
     c.end_finish.ensures.second s st
-    (c.in-Err-Failed.ensures.err old.second s.now.header.generation s.finish s.copy st.other)
+    (c.in-Err-Failed.ensures.ends.err old.second s.now.header.generation s.finish s.copy st.other)
 
 pub returns-in-Err-Failed-clause-moments : goal.returns-in-Err-Failed-clause-moments
 returns-in-Err-Failed-clause-moments g c s st =
@@ -23,7 +23,7 @@ returns-in-Err-Failed-clause-moments g c s st =
     let old = c.args.self.now in
     refused_moments d g.met.D.Disk.only_now old c.end_finish.new.self c.end_finish.ensures.journal
     c.end_finish.ensures.second s st c.args.payload.now
-    (c.end_finish.ensures.moments old.second s.now.header.generation s.finish s.copy st.other)
+    (c.end_finish.ensures.ends.moments old.second s.now.header.generation s.finish s.copy st.other)
 
 pub returns-in-Err-NoMemory-clause-gives : goal.returns-in-Err-NoMemory-clause-gives
 returns-in-Err-NoMemory-clause-gives g c s st =
@@ -31,7 +31,7 @@ returns-in-Err-NoMemory-clause-gives g c s st =
     let old = c.args.self.now in
     refused_append d g.met.D.Disk.only_now old c.end_finish.new.self c.end_finish.ensures.journal
     c.end_finish.ensures.second s st
-    (c.in-Err-NoMemory.ensures.err old.second s.now.header.generation s.finish s.copy st.other)
+    (c.in-Err-NoMemory.ensures.ends.err old.second s.now.header.generation s.finish s.copy st.other)
 
 pub returns-in-Err-NoMemory-clause-moments : goal.returns-in-Err-NoMemory-clause-moments
 returns-in-Err-NoMemory-clause-moments g c s st =
@@ -39,7 +39,7 @@ returns-in-Err-NoMemory-clause-moments g c s st =
     let old = c.args.self.now in
     refused_moments d g.met.D.Disk.only_now old c.end_finish.new.self c.end_finish.ensures.journal
     c.end_finish.ensures.second s st c.args.payload.now
-    (c.end_finish.ensures.moments old.second s.now.header.generation s.finish s.copy st.other)
+    (c.end_finish.ensures.ends.moments old.second s.now.header.generation s.finish s.copy st.other)
 
 pub returns-clause-gives : goal.returns-clause-gives
 returns-clause-gives g c s st =
@@ -57,7 +57,7 @@ returns-clause-gives g c s st =
     subst (λ (p : Paired g.row.D.Denot). AppendGives c.put.result (StandsFor d p) s c.args.payload.now) new
     (done_append d g.met.D.Disk.only_now old mid c.end_finish.ensures.journal c.end_finish.ensures.second after
     (c.put.ensures.header ∙ ap (λ (p : Paired g.row.D.Denot). p.journal.header) view) s st c.args.payload.now
-    (c.in-Ok.ensures.ok old.second s.now.header.generation s.finish s.copy st.other) c.put.result
+    (c.in-Ok.ensures.ends.ok old.second s.now.header.generation s.finish s.copy st.other) c.put.result
     (subst (λ (p : Paired g.row.D.Denot). Has d p.journal st.front s.now.commits s.commit
     → PutGives c.put.result (Has d after st.front) s.now.commits s.commit c.args.payload.now) view
     (c.put.ensures.gives st.front s.now.commits s.commit)))
@@ -79,7 +79,7 @@ returns-clause-acknowledged g c =
     (StandsFor d old) c.put.result (λ s st. subst (λ (p : Paired g.row.D.Denot). AppendGives c.put.result (StandsFor d p) s c.args.payload.now) new
     (done_append d g.met.D.Disk.only_now old mid c.end_finish.ensures.journal c.end_finish.ensures.second after
     (c.put.ensures.header ∙ ap (λ (p : Paired g.row.D.Denot). p.journal.header) view) s st c.args.payload.now
-    (c.in-Ok.ensures.ok old.second s.now.header.generation s.finish s.copy st.other) c.put.result
+    (c.in-Ok.ensures.ends.ok old.second s.now.header.generation s.finish s.copy st.other) c.put.result
     (subst (λ (p : Paired g.row.D.Denot). Has d p.journal st.front s.now.commits s.commit
     → PutGives c.put.result (Has d after st.front) s.now.commits s.commit c.args.payload.now) view
     (c.put.ensures.gives st.front s.now.commits s.commit))))
@@ -105,4 +105,4 @@ returns-clause-moments g c s st =
     → IfTold (d.content after.disk) (λ _. AtEachMoment d p.journal.disk after.disk
     (ShowsOne st.front s.now.commits s.commit c.args.payload.now))) view
     (c.put.ensures.moments st.front s.now.commits s.commit))
-    (c.end_finish.ensures.moments old.second s.now.header.generation s.finish s.copy st.other))
+    (c.end_finish.ensures.ends.moments old.second s.now.header.generation s.finish s.copy st.other))
