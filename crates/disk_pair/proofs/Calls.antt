@@ -2,18 +2,19 @@
 use Rattle.std.proofs.Common.{◌≡◌, ◌⊎◌, inl, inr, ◌++◌, ◌∷◌, [], Bool, false, true, ℕ, List, Option, Some, None, Result, Ok, Err, OnOk, refl, sym, ◌∙◌, ap, subst}
 use Rattle.disk_edge.specs.Disk.{DiskModel, Faulted, IfTold}
 use Rattle.disk_edge.specs.Moments.{AtEachMoment}
+use Rattle.disk_edge.specs.declared.disk.DiskFail.{DiskFail}
 use Rattle.journal_core.specs.Fronts.{IsFront}
 use Rattle.journal_core.specs.Standing.{Standing}
 use Rattle.disk_pair.specs.Gives.{AppendGives, CurrentStays, EndsOlder, OnFault, PairGoes}
 use Rattle.disk_pair.specs.Pairs.{History, MayShow, PairOpensTo, State, with_commit}
-use Rattle.disk_pair.specs.Puts.{IsOther, IsThere, OtherMoments, PutGives, ShowsOne, held}
+use Rattle.disk_pair.specs.Puts.{EndsFinish, IsOther, IsThere, OtherMoments, PutGives, ShowsOne, held}
 use Rattle.disk_pair.specs.Stands.{Beside, Has, StandsFor}
 use Rattle.disk_pair.specs.Term.{AtEachPair, Goes, OfEachPair, Paired, disk_of, first_of}
 use Rattle.disk_pair.specs.declared.fault.PutFault.{PutFault}
 use Rattle.disk_pair.specs.declared.fault.PutFault.TheVariants.{DiskFault, NoMemory}
 use Rattle.disk_pair.specs.declared.other.Other.{Other}
 use Rattle.disk_pair.proofs.Commits.{has_shows, shows_doubt, shows_one}
-use Rattle.disk_pair.proofs.Lifts.{current_fault, each_now, each_pair, goes_first, goes_none, goes_second, other_fault}
+use Rattle.disk_pair.proofs.Lifts.{each_now, each_pair, goes_none}
 use Rattle.disk_pair.proofs.Others.{other_shows}
 use Rattle.disk_pair.proofs.Readings.{Shows}
 
@@ -25,6 +26,15 @@ pub was : {D : Type 0} (old : Paired D) (journal : Standing D) (second : Bool) (
     (other : Other D) → paired journal (held journal.disk inside) second ≡ old → inside ≡ Some other
     → old ≡ paired journal other second
 was old journal second inside other view taken = sym view ∙ (λ i. paired journal (held journal.disk (taken i)) second)
+
+at_fault : {P Q : Type 0} (result : Result (Unit {0}) PutFault) → (P → Q) → OnFault result P → OnFault result Q
+at_fault (Ok _) f p = tt
+at_fault (Err (DiskFault doubt)) f p = f p
+at_fault (Err NoMemory) f p = tt
+
+swapped : {P Q : Type 0} → P ⊎ Q → Q ⊎ P
+swapped (inl p) = inr p
+swapped (inr q) = inl q
 
 only_may : (s : State) (k : History) → MayShow s k ⊎ ⊥ → MayShow s k
 only_may s k (inl may) = may
@@ -85,31 +95,21 @@ module _ {D : Type 0} (model : DiskModel D) where
       moments = rw is (λ s st. other_moments other (disk_of new) s st s.finish (moments s st));
     }
 
-  other_cause : (second : Bool) (c o o' : D) (result : Result (Unit {0}) PutFault)
-      → OnFault result (Faulted model o o')
-      → OnFault result (Faulted model (first_of second c o) (first_of second c o')
-      ⊎ Faulted model (first_of second o c) (first_of second o' c))
-  other_cause second c o o' (Ok _) p = tt
-  other_cause second c o o' (Err (DiskFault doubt)) p = other_fault model second c c o o' p
-  other_cause second c o o' (Err NoMemory) p = tt
+  both_go : (journal after : Standing D) (old new : Other D) (second : Bool) (result : Result (Unit {0}) PutFault)
+      → Goes model journal.disk after.disk → Goes model (disk_of old) (disk_of new)
+      → OnFault result (Faulted model journal.disk after.disk ⊎ Faulted model (disk_of old) (disk_of new))
+      → PairGoes model result (paired journal old second) (paired after new second)
+  both_go journal after old new false result p q cause = record { a = p; b = q; cause = cause }
+  both_go journal after old new true result p q cause = record { a = q; b = p; cause = at_fault result swapped cause }
 
-  -- what the call keeps of both disks
+  -- what the call of the other disk alone keeps of both
   pub other_goes : (journal : Standing D) (second : Bool) (old : Paired D) (other new : Other D)
-      (result : Result (Unit {0}) PutFault) → old ≡ paired journal other second → Goes model (disk_of other) (disk_of new)
-      → OnFault result (Faulted model (disk_of other) (disk_of new)) → PairGoes model result old (paired journal new second)
-  other_goes journal second old other new result is goes cause = rw is (record {
-    a = goes_first model second journal.disk journal.disk (disk_of other) (disk_of new) (goes_none model journal.disk) goes;
-    b = goes_second model second journal.disk journal.disk (disk_of other) (disk_of new) (goes_none model journal.disk) goes;
-    cause = other_cause second journal.disk (disk_of other) (disk_of new) result cause;
-  })
-
-  pub current_cause : (second : Bool) (c c' o o' : D) (result : Result (Unit {0}) PutFault)
-      → OnFault result (Faulted model c c')
-      → OnFault result (Faulted model (first_of second c o) (first_of second c' o')
-      ⊎ Faulted model (first_of second o c) (first_of second o' c'))
-  current_cause second c c' o o' (Ok _) p = tt
-  current_cause second c c' o o' (Err (DiskFault doubt)) p = current_fault model second c c' o o' p
-  current_cause second c c' o o' (Err NoMemory) p = tt
+      (result : Result (Unit {0}) PutFault) → old ≡ paired journal other second
+      → Goes model (disk_of other) (disk_of new) → OnFault result (Faulted model (disk_of other) (disk_of new))
+      → PairGoes model result old (paired journal new second)
+  other_goes journal second old other new result is goes cause =
+      rw is (both_go journal journal other new second result (goes_none model journal.disk) goes
+      (at_fault result (λ f. inr f) cause))
 
   -- a commit, by its answer
   module _ (pair : Paired D) (s : State) (front payload : List ℕ) (is_front : IsFront s.now.header s.now.base front)
@@ -169,75 +169,86 @@ module _ {D : Type 0} (model : DiskModel D) where
   }) refl refl (gives s b)
 
 -- where the other disk is there, it stands for itself whatever the current one is
-pub same_held : {D : Type 0} (d e : D) (other : Option (Other D)) → IsThere other → held d other ≡ held e other
+same_held : {D : Type 0} (d e : D) (other : Option (Other D)) → IsThere other → held d other ≡ held e other
 same_held d e (Some other) there = refl
 same_held d e None there = absurd there
 
-module _ {D : Type 0} (model : DiskModel D) (only_now : (d : D) (c : List ℕ)
-    → model.images_between d (model.clock d) (model.clock d) c → model.images d c) (old new : Paired D)
-    (journal : new.journal ≡ old.journal) (second : new.second ≡ old.second) where
-  rejoined : paired old.journal new.other old.second ≡ new
-  rejoined = λ i. record { journal = sym journal i; other = new.other; second = sym second i }
+-- what putting a payload leaves of the journal
+pub record Takes {D : Type 0} (model : DiskModel D) (result : Result (Unit {0}) PutFault) (payload : List ℕ)
+    (new old : Standing D) : Type 0 where
+  pub gives : (front : List ℕ) (ps : List (List ℕ)) (doubt : Option (List ℕ)) → Has model old front ps doubt
+      → PutGives result (Has model new front) ps doubt payload
+  pub moments : (front : List ℕ) (ps : List (List ℕ)) (doubt : Option (List ℕ)) → Has model old front ps doubt
+      → IfTold (model.content new.disk) (λ _. AtEachMoment model old.disk new.disk (ShowsOne front ps doubt payload))
+  pub header : new.header ≡ old.header
+  pub goes : Goes model old.disk new.disk
+  pub cause : OnFault result (Faulted model old.disk new.disk)
 
-  -- the other disk alone was called
-  pub other_stands : (s : State) → StandsFor model old s → (f : Option History)
-      → Beside model old.second s.now.header.generation f s.copy new.other
-      → StandsFor model new (record s { finish = f })
-  other_stands s st f beside = subst (λ (p : Paired D). StandsFor model p (record s { finish = f })) rejoined (record {
-    front = st.front;
-    is_front = st.is_front;
-    header = st.header;
-    journal = st.journal;
-    other = beside;
-  })
-
-  pub refused_append : (s : State) → StandsFor model old s
-      → Beside model old.second s.now.header.generation s.finish s.copy new.other → EndsOlder (StandsFor model new) s
-  refused_append s st beside = record {
-    commit = s.commit;
-    finish = s.finish;
-    commit_is = inl refl;
-    finish_is = inl refl;
-    stands = other_stands s st s.finish beside;
-  }
-
-  pub refused_moments : (s : State) → StandsFor model old s → (payload : List ℕ)
-      → OtherMoments model (disk_of old.other) (disk_of new.other) old.second s.now.header.generation s.finish
+-- what an append leaves of the two disks
+pub record Appends {D : Type 0} (model : DiskModel D) (result : Result (Unit {0}) PutFault) (payload : List ℕ)
+    (old new : Paired D) : Type 0 where
+  pub gives : (s : State) → StandsFor model old s → AppendGives result (StandsFor model new) s payload
+  pub moments : (s : State) → StandsFor model old s
       → AtEachPair model old new (PairOpensTo (λ h. MayShow s h ⊎ (h ≡ with_commit s.now payload)))
-  refused_moments s st payload moments = subst (λ (p : Paired D). AtEachPair model old p
-      (PairOpensTo (λ h. MayShow s h ⊎ (h ≡ with_commit s.now payload)))) rejoined
-      (λ l told k told_other x m y n. let shown = other_moments model only_now old.journal old.second old.other
-      (disk_of new.other) s st s.finish moments l told k told_other x m y n in
-      (shown.0, inl shown.1, shown.2))
+  pub goes : PairGoes model result old new
+
+-- A finish in doubt is ended first, on the other disk alone.
+module _ {D : Type 0} (model : DiskModel D) (only_now : (d : D) (c : List ℕ)
+    → model.images_between d (model.clock d) (model.clock d) c → model.images d c) (old mid : Paired D)
+    (journal : mid.journal ≡ old.journal) (second : mid.second ≡ old.second) (payload : List ℕ)
+    (result : Result (Unit {0}) PutFault) where
+  -- it is not ended
+  pub refused_append : {fail : DiskFail} → EndsFinish model (Err fail) old.other mid.other
+      → OnFault result (Faulted model (disk_of old.other) (disk_of mid.other))
+      → ((s : State) → EndsOlder (StandsFor model mid) s → AppendGives result (StandsFor model mid) s payload)
+      → Appends model result payload old mid
+  refused_append ends cause older =
+      let stays = current_stays model only_now old.journal old.second old old.other mid.other refl
+      (λ s st. ends.moments old.second s.now.header.generation s.finish s.copy st.other) in
+      let rejoined : paired old.journal mid.other old.second ≡ mid =
+      λ i. record { journal = sym journal i; other = mid.other; second = sym second i } in
+      record {
+        gives = λ s st. older s (record {
+          commit = s.commit;
+          finish = s.finish;
+          commit_is = inl refl;
+          finish_is = inl refl;
+          stands = subst (λ (p : Paired D). StandsFor model p s) rejoined (record {
+            front = st.front;
+            is_front = st.is_front;
+            header = st.header;
+            journal = st.journal;
+            other = ends.err old.second s.now.header.generation s.finish s.copy st.other;
+          });
+        });
+        moments = λ s st. subst (λ (p : Paired D). AtEachPair model old p
+            (PairOpensTo (λ (h : History). MayShow s h ⊎ (h ≡ with_commit s.now payload)))) rejoined
+            (λ l told k told_other x m y n. let shown = stays.moments s st l told k told_other x m y n in
+            (shown.0, inl shown.1, shown.2));
+        goes = subst (PairGoes model result old) rejoined
+            (other_goes model old.journal old.second old old.other mid.other result refl ends.goes cause);
+      }
 
   -- then the journal takes the payload or not
-  module _ (after : Standing D) (header : after.header ≡ new.journal.header) (s : State) (st : StandsFor model old s)
-      (payload : List ℕ) (settled : Beside model old.second s.now.header.generation None s.copy new.other)
-    where
-      abbrev now : Paired D
-      now = paired after new.other old.second
-
-      has_before : Has model new.journal st.front s.now.commits s.commit
-      has_before = subst (λ (j : Standing D). Has model j st.front s.now.commits s.commit) (sym journal) st.journal
-
-      pub done_append : (result : Result (Unit {0}) PutFault)
-          → (Has model new.journal st.front s.now.commits s.commit
-          → PutGives result (Has model after st.front) s.now.commits s.commit payload)
-          → AppendGives result (StandsFor model now) s payload
-      done_append result gives = append_gives model now s st.front payload st.is_front
-          (header ∙ (ap (λ (j : Standing D). j.header) journal ∙ st.header)) settled result (gives has_before)
-
-  pub done_moments : (after : Standing D) (s : State) (st : StandsFor model old s) (payload : List ℕ)
-      → (Has model new.journal st.front s.now.commits s.commit → IfTold (model.content after.disk) (λ _.
-      AtEachMoment model new.journal.disk after.disk (ShowsOne st.front s.now.commits s.commit payload)))
-      → OtherMoments model (disk_of old.other) (disk_of new.other) old.second s.now.header.generation s.finish
-      → AtEachPair model old (paired after new.other old.second)
-      (PairOpensTo (λ h. MayShow s h ⊎ (h ≡ with_commit s.now payload)))
-  done_moments after s st payload shows moments =
-      let same = ap (λ (j : Standing D). j.disk) journal in
-      each_pair model old.second old.journal.disk after.disk (disk_of old.other) (disk_of new.other)
-      (λ h. MayShow s h ⊎ (h ≡ with_commit s.now payload))
-      (λ l told k told_other x m y n. shows_one old.second s st.front st.is_front payload x y
-      (shows (subst (λ (j : Standing D). Has model j st.front s.now.commits s.commit) (sym journal) st.journal) l told x
-      (subst (λ (e : D). model.images_between after.disk (model.clock e) (model.clock after.disk) x) (sym same) m))
-      (moments k told_other y n))
+  pub done_append : (inside : Standing D) (other : Option (Other D)) (flag : Bool)
+      → paired inside (held inside.disk other) flag ≡ mid → IsThere other
+      → EndsFinish model (Ok tt) old.other mid.other → (after : Standing D) → Takes model result payload after inside
+      → Appends model result payload old (paired after (held after.disk other) flag)
+  done_append inside other flag view there ends after put =
+      let takes = subst (Takes model result payload after) (ap (λ (p : Paired D). p.journal) view ∙ journal) put in
+      let now = paired after mid.other old.second in
+      let is-other = ap (λ (p : Paired D). p.other) (sym view) ∙ same_held inside.disk after.disk other there in
+      let is-second = sym second ∙ ap (λ (p : Paired D). p.second) (sym view) in
+      let new : now ≡ paired after (held after.disk other) flag = λ i. paired after (is-other i) (is-second i) in
+      subst (Appends model result payload old) new (record {
+        gives = λ s st. append_gives model now s st.front payload st.is_front (takes.header ∙ st.header)
+            (ends.ok old.second s.now.header.generation s.finish s.copy st.other) result
+            (takes.gives st.front s.now.commits s.commit st.journal);
+        moments = λ s st. each_pair model old.second old.journal.disk after.disk (disk_of old.other) (disk_of mid.other)
+            (λ h. MayShow s h ⊎ (h ≡ with_commit s.now payload))
+            (λ l told k told_other x m y n. shows_one old.second s st.front st.is_front payload x y
+            (takes.moments st.front s.now.commits s.commit st.journal l told x m)
+            (ends.moments old.second s.now.header.generation s.finish s.copy st.other k told_other y n));
+        goes = both_go model old.journal after old.other mid.other old.second result takes.goes ends.goes
+            (at_fault result (λ f. inl f) takes.cause);
+      })

@@ -9,14 +9,14 @@ use Rattle.journal_core.specs.declared.header.Header.{Header}
 use Rattle.compact_core.specs.Carrying.{Carrying}
 use Rattle.disk_pair.specs.Gives.{CopyGives, CurrentStays, EndsOlder, FinishGives, OnFault, PairGoes, StartGives, empty_copy}
 use Rattle.disk_pair.specs.Pairs.{History, Loses, MayShow, PairOpensTo, State, with_commit}
-use Rattle.disk_pair.specs.Puts.{BesideCopy, BesideFault, BesideStart, OtherMoments, ShowsDoubt}
+use Rattle.disk_pair.specs.Puts.{BesideCopy, BesideFault, BesideStart, OtherMoments, ShowsDoubt, held}
 use Rattle.disk_pair.specs.Stands.{Beside, Carries, StandsFor}
 use Rattle.disk_pair.specs.Term.{AtEachPair, Goes, OfEachPair, Paired, disk_of, first_of}
 use Rattle.disk_pair.specs.declared.fault.PutFault.{PutFault}
 use Rattle.disk_pair.specs.declared.fault.PutFault.TheVariants.{DiskFault, NoMemory}
 use Rattle.disk_pair.specs.declared.other.Other.{Other}
 use Rattle.disk_pair.specs.declared.other.Other.TheVariants.{Idle, Copy}
-use Rattle.disk_pair.proofs.Calls.{current_stays, other_goes, other_moments, paired, sure_shows}
+use Rattle.disk_pair.proofs.Calls.{current_stays, other_goes, other_moments, paired, sure_shows, was}
 use Rattle.disk_pair.proofs.Commits.{has_shows}
 use Rattle.disk_pair.proofs.Lifts.{goes_none}
 use Rattle.disk_pair.proofs.Readings.{older_loses}
@@ -202,17 +202,22 @@ pub record Adds {D : Type 0} (model : DiskModel D) (result : Result (Unit {0}) P
   pub goes : PairGoes model result old new
 
 -- what a finish leaves
-pub record Ends {D : Type 0} (model : DiskModel D) (result : Result (Unit {0}) PutFault) (old new : Paired D) : Type 0 where
+pub record Ends {D : Type 0} (model : DiskModel D) (result : Result (Unit {0}) PutFault) (old new : Paired D)
+    : Type 0 where
   pub gives : (s : State) (copy : History) → StandsFor model old s → s.copy ≡ Some copy
       → FinishGives result (StandsFor model new) s copy
   pub moments : (s : State) → StandsFor model old s
       → AtEachPair model old new (PairOpensTo (λ h. MayShow s h ⊎ (s.copy ≡ Some h)))
   pub goes : PairGoes model result old new
 
--- A call on the running copy, by what it leaves on the other disk.
+-- A call that takes the running copy out of the pair, by what it leaves on the copy's disk.
 module _ {D : Type 0} (model : DiskModel D) (only_now : (d : D) (c : List ℕ)
     → model.images_between d (model.clock d) (model.clock d) c → model.images d c) (old : Paired D)
-    (journal : Standing D) (second : Bool) (carry : Carrying D) (is : old ≡ paired journal (Copy carry) second) where
+    (journal : Standing D) (second : Bool) (inside : Option (Other D)) (carry : Carrying D)
+    (view : paired journal (held journal.disk inside) second ≡ old) (taken : inside ≡ Some (Copy carry)) where
+  is : old ≡ paired journal (Copy carry) second
+  is = was old journal second inside (Copy carry) view taken
+
   pub adds : (P : History → Type 0) (longer : History → History) (new : Other D) (result : Result (Unit {0}) PutFault)
       → ((second : Bool) (g : ℕ) (h : History) → P h → Carries model g carry h
       → BesideCopy result (λ copy. Beside model second g None copy new) h (longer h))

@@ -1,6 +1,6 @@
 -- From the current disk and the other one to the first disk and the second.
-use Rattle.std.proofs.Common.{◌⊎◌, inl, inr, Bool, false, true, ℕ, List, arith}
-use Rattle.disk_edge.specs.Disk.{DiskModel, Faulted, IfTold}
+use Rattle.std.proofs.Common.{Bool, false, true, ℕ, List, arith}
+use Rattle.disk_edge.specs.Disk.{DiskModel, IfTold}
 use Rattle.disk_edge.specs.Moments.{AtEachMoment}
 use Rattle.disk_pair.specs.Pairs.{History, PairOpensTo}
 use Rattle.disk_pair.specs.Term.{Goes, first_of}
@@ -36,25 +36,3 @@ module _ {D : Type 0} (model : DiskModel D) where
       → PairOpensTo P x y))
   each_now false c o P f = f
   each_now true c o P f = λ l told k told_other x y i j. f k told_other l told y x j i
-
-  pub goes_first : (second : Bool) (c c' o o' : D) → Goes model c c' → Goes model o o'
-      → Goes model (first_of second c o) (first_of second c' o')
-  goes_first false c c' o o' p q = p
-  goes_first true c c' o o' p q = q
-
-  pub goes_second : (second : Bool) (c c' o o' : D) → Goes model c c' → Goes model o o'
-      → Goes model (first_of second o c) (first_of second o' c')
-  goes_second false c c' o o' p q = q
-  goes_second true c c' o o' p q = p
-
-  abbrev Either : Bool → D → D → D → D → Type 0
-  Either second c c' o o' = Faulted model (first_of second c o) (first_of second c' o')
-      ⊎ Faulted model (first_of second o c) (first_of second o' c')
-
-  pub current_fault : (second : Bool) (c c' o o' : D) → Faulted model c c' → Either second c c' o o'
-  current_fault false c c' o o' p = inl p
-  current_fault true c c' o o' p = inr p
-
-  pub other_fault : (second : Bool) (c c' o o' : D) → Faulted model o o' → Either second c c' o o'
-  other_fault false c c' o o' p = inr p
-  other_fault true c c' o o' p = inl p

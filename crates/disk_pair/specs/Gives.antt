@@ -61,15 +61,15 @@ OnFault (Ok _) P = Unit {0}
 OnFault (Err (DiskFault doubt)) P = P
 OnFault (Err NoMemory) P = Unit {0}
 
--- What each call keeps of the two disks. At a fault of a disk one of them counted it.
+-- What each call keeps of both disks. Where it answers that a disk failed, one of them counted a fault.
 pub record PairGoes {D : Type 0} (model : DiskModel D) (result : Result (Unit {0}) PutFault) (old new : Paired D)
     : Type 0 where
   pub a : Goes model (disk_a old) (disk_a new)
   pub b : Goes model (disk_b old) (disk_b new)
   pub cause : OnFault result (Faulted model (disk_a old) (disk_a new) ⊎ Faulted model (disk_b old) (disk_b new))
 
--- A call on the other disk alone: the journal stays, and so does which disk is current. A crash at each moment of it
--- leaves a history that may be there.
+-- What a call on the other disk alone leaves: the current disk and its journal are as they were, and a crash at each
+-- moment of the call leaves a history that may be there.
 pub record CurrentStays {D : Type 0} (model : DiskModel D) (old new : Paired D) : Type 0 where
   pub journal : new.journal ≡ old.journal
   pub second : new.second ≡ old.second

@@ -39,9 +39,10 @@ abbrev pub IsOther : Bool → ℕ → Option History → List ℕ → Type 0
 IsOther second g finish y = ((v : History) × (finish ≡ Some v) × (g < v.header.generation) × OpensAs v y)
     ⊎ Loses second g y
 
--- what an image of the other disk is at each moment of a call, where that disk tells its content
+-- so is each image at a moment of a call, where that disk tells its content
 abbrev pub OtherMoments : {D : Type 0} → DiskModel D → D → D → Bool → ℕ → Option History → Type 0
-OtherMoments model old new second g finish = IfTold (model.content new) (λ _. AtEachMoment model old new (IsOther second g finish))
+OtherMoments model old new second g finish =
+    IfTold (model.content new) (λ _. AtEachMoment model old new (IsOther second g finish))
 
 -- What a call that ends a finish in doubt leaves of the other disk. A running copy goes on.
 pub record EndsFinish {D : Type 0} (model : DiskModel D) (result : Result (Unit {0}) DiskFail) (old new : Other D)

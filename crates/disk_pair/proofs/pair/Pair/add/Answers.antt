@@ -1,19 +1,19 @@
 use Rattle.std.proofs.Common.{rules}
-use Rattle.disk_pair.specs.declared.other.Other.TheVariants.{Copy}
 use Rattle.disk_pair.specs.Pairs.{with_commit}
-use Rattle.disk_pair.proofs.Calls.{was}
 use Rattle.disk_pair.proofs.Copying.{adds}
 use Rattle.disk_pair.proofs.pair.Pair.add.Goals as goal
 
 pub returns : goal.returns
 returns g c =
-    let now = c.args.self.now in
     let inside = c.self.inside in
-    let carry = c.in-Some-Copy.carry in
     let said = c.add-other.ensures in
-    let it = adds g.D.Disk.model g.met.D.Disk.only_now now inside.journal inside.second carry
-    (was now inside.journal inside.second inside.other (Copy carry) c.self.view_is
-    (cc (c.take.ensures.value, c.in-Some-Copy.is, c.in-Some-Copy.field-0-is)))
+    let it = adds g.D.Disk.model g.met.D.Disk.only_now c.args.self.now inside.journal inside.second inside.other
+    c.in-Some-Copy.carry c.self.view_is (cc (c.take.ensures.value, c.in-Some-Copy.is, c.in-Some-Copy.field-0-is))
     (λ _. Unit {0}) (λ h. with_commit h c.args.payload.now) c.add-other.result.0 c.add-other.result.1
     (λ side k h _. said.gives side k h) said.moments said.goes said.cause in
-    record { gives = λ s copy st has. it.gives s copy st has tt; current = it.current; goes = it.goes; progress = search rules }
+    record {
+      gives = λ s copy st has. it.gives s copy st has tt;
+      current = it.current;
+      goes = it.goes;
+      progress = search rules;
+    }

@@ -12,7 +12,7 @@ returns-in-Ok-clause-call g c =
     (subst (λ (t : StoreTerm g.row.D.Denot). IsSomeAnd t.copy (λ k. left k ≡ 0)) (sym c.self.view_is) c.requires) in
     rw (sym c.self.view_is, x.1)
     (λ s h. finished g.D.Disk.model c.laws.ensures.sound c.laws.ensures.heads _ s h x.0 h.copy x.2 c.finish.new.self
-    c.finish.ensures.a c.finish.ensures.b c.finish.ensures.moments c.header-generation.result.generation
+    c.finish.ensures.goes.a c.finish.ensures.goes.b c.finish.ensures.moments c.header-generation.result.generation
     (ap (λ (k : Header). k.generation) c.header-generation.ensures)
     (subst (HasHeader s.generation s.history (Some x.0)) c.in-Ok.ensures.moved h.copied) c.in-Ok.ensures.gives)
 
@@ -23,8 +23,8 @@ returns-in-Err-DiskFault-clause-call g c =
     let fault = c.in-Err-DiskFault in
     rw (sym c.self.view_is, x.1)
     (λ s h. faulted-finish g.D.Disk.model c.laws.ensures.sound c.laws.ensures.heads _ s h x.0 h.copy x.2
-    c.finish.new.self c.finish.ensures.a c.finish.ensures.b c.finish.ensures.moments fault.ensures.stays fault.doubt
-    (rw fault.field-0-is at fault.ensures.cause) (rw fault.field-0-is at fault.ensures.gives))
+    c.finish.new.self c.finish.ensures.goes.a c.finish.ensures.goes.b c.finish.ensures.moments fault.ensures.stays
+    fault.doubt (rw fault.field-0-is at fault.ensures.goes.cause) (rw fault.field-0-is at fault.ensures.gives))
 
 pub returns-in-Err-NoMemory-clause-call : goal.returns-in-Err-NoMemory-clause-call
 returns-in-Err-NoMemory-clause-call g c =
@@ -33,5 +33,5 @@ returns-in-Err-NoMemory-clause-call g c =
     let fault = c.in-Err-NoMemory in
     rw (sym c.self.view_is, x.1)
     (λ s h. unfinished g.D.Disk.model c.laws.ensures.sound c.laws.ensures.heads _ s h x.0 h.copy x.2
-    c.finish.new.self c.finish.ensures.a c.finish.ensures.b c.finish.ensures.moments fault.ensures.stays
+    c.finish.new.self c.finish.ensures.goes.a c.finish.ensures.goes.b c.finish.ensures.moments fault.ensures.stays
     (rw fault.field-0-is at fault.ensures.progress) h.copied (rw fault.field-0-is at fault.ensures.gives))

@@ -24,7 +24,7 @@ invariant_of-self g c =
     subst (λ (k : CopyTerm). IsReady c.self.inside.memory c.start_copy.new.self (Some k)) (sym c.new.ensures)
     (start-ready c.laws.ensures.sound c.self.inside.memory old c.start_copy.new.self version left
     (next_header old.journal.header version left) c.version-version.ensures c.states-left.ensures.count
-    c.states-left.ensures.within refl c.start_copy.ensures.journal c.in-Ok.ensures.progress ready)
+    c.states-left.ensures.within refl c.start_copy.ensures.current.journal c.in-Ok.ensures.progress ready)
 
 pub returns-in-Ok-clause-call : goal.returns-in-Ok-clause-call
 returns-in-Ok-clause-call g c =
@@ -35,15 +35,15 @@ returns-in-Ok-clause-call g c =
     (λ s h.
     let at = ap (λ (k : Header). k.generation) h.header in
     start-call g.D.Disk.model c.laws.ensures.sound c.laws.ensures.heads _ s h c.start_copy.new.self
-    c.start_copy.ensures.a c.start_copy.ensures.b c.version-version.result c.states-left.result
+    c.start_copy.ensures.goes.a c.start_copy.ensures.goes.b c.version-version.result c.states-left.result
     (c.version-version.ensures ∙ h.memory.stands.version) (c.states-left.ensures.count s h.memory.stands)
-    (subst (HasCopy s.history s.copy) none h.copy) (omega (arith, low, same, at)) c.start_copy.ensures.journal
-    c.in-Ok.ensures.gives c.in-Ok.ensures.progress c.start_copy.ensures.moments)
+    (subst (HasCopy s.history s.copy) none h.copy) (omega (arith, low, same, at)) c.start_copy.ensures.current.journal
+    c.in-Ok.ensures.gives c.in-Ok.ensures.progress c.start_copy.ensures.current.moments)
 
 pub returns-in-Err-clause-call : goal.returns-in-Err-clause-call
 returns-in-Err-clause-call g c =
     let none = ap (λ (t : StoreTerm g.row.D.Denot). t.copy) c.self.view_is ∙ c.requires in
     rw (sym c.self.view_is, none, c.copy_fault.ensures)
     (λ s h. refused-start g.D.Disk.model c.laws.ensures.sound c.laws.ensures.heads _ s h h.copy c.start_copy.new.self
-    c.start_copy.ensures.a c.start_copy.ensures.b c.start_copy.ensures.journal c.in-Err.fault _ c.in-Err.ensures.gives
-    c.in-Err.ensures.cause c.start_copy.ensures.moments)
+    c.start_copy.ensures.goes.a c.start_copy.ensures.goes.b c.start_copy.ensures.current.journal c.in-Err.fault _
+    c.in-Err.ensures.gives c.in-Err.ensures.goes.cause c.start_copy.ensures.current.moments)

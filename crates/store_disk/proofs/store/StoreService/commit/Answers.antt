@@ -38,8 +38,8 @@ returns-clause-call g c =
     (λ s h.
     let stands = c.prepare.ensures.stands (served s) h.memory.stands in
     done d c.laws.ensures.sound c.laws.ensures.heads c.laws.ensures.grown _ s h c.args.change
-    (c.in_ok-prepare.ensures.prepared.may_add s stands) c.make.new.self c.append.new.self _ c.append.ensures.a
-    c.append.ensures.b c.append.ensures.header c.append.ensures.progress c.deref.result.now
+    (c.in_ok-prepare.ensures.prepared.may_add s stands) c.make.new.self c.append.new.self _ c.append.ensures.goes.a
+    c.append.ensures.goes.b c.append.ensures.header c.append.ensures.progress c.deref.result.now
     (c.deref.ensures.value ∙ c.in_ok-payload.ensures.payload) c.append.ensures.moments
     (c.make.ensures.committed s stands)
     (c.queue.ensures ∙ (ap (option_map (queued c.in_ok-payload.payload.items)) c.reserve.ensures.same
@@ -53,10 +53,10 @@ returns-in-Err-clause-call g c =
     (λ s h.
     let stands = c.prepare.ensures.stands (served s) h.memory.stands in
     faulted d c.laws.ensures.sound c.laws.ensures.heads c.laws.ensures.grown _ s h c.args.change
-    (c.in_ok-prepare.ensures.prepared.may_add s stands) c.prepare.new.self c.append.new.self _ c.append.ensures.a
-    c.append.ensures.b c.append.ensures.header c.append.ensures.progress c.deref.result.now
+    (c.in_ok-prepare.ensures.prepared.may_add s stands) c.prepare.new.self c.append.new.self _ c.append.ensures.goes.a
+    c.append.ensures.goes.b c.append.ensures.header c.append.ensures.progress c.deref.result.now
     (c.deref.ensures.value ∙ c.in_ok-payload.ensures.payload) c.append.ensures.moments
-    stands c.reserve.ensures.same c.in-Err.fault c.in-Err.ensures.gives c.in-Err.ensures.cause)
+    stands c.reserve.ensures.same c.in-Err.fault c.in-Err.ensures.gives c.in-Err.ensures.goes.cause)
 
 pub invariant_of-self-in_err-prepare : goal.invariant_of-self-in_err-prepare
 invariant_of-self-in_err-prepare g c =
