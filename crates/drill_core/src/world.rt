@@ -13,8 +13,7 @@ ghost use Rattle.store_core.specs.Replies.{fetch_calls};
 ghost use Rattle.store_core.specs.Steps.{AreSteps};
 ghost use Rattle.store_core.specs.Stored.{HoldsPin, empty};
 ghost use Rattle.store_core.specs.declared.page.TheConstants.{MOST_RECORDS};
-ghost use Rattle.store_machine.specs.History.{IsId, begun};
-ghost use Rattle.store_machine.specs.Openings.{IsOpened};
+ghost use Rattle.store_machine.specs.History.{IsId};
 ghost use Rattle.store_machine.specs.declared.machine.State.{State};
 ghost use Rattle.store_disk.specs.InMemory.{StandsInMemory};
 ghost use Rattle.store_disk.specs.Stored.{Stretches};
@@ -62,8 +61,6 @@ impl World {
     pub fn new(alloc: Global, commits: u32) -> Result<World, AllocError>
         requires some { 1 ≤ commits }
         requires few { commits ≤ MOST_COMMITS }
-        ensures opened { IfOk result (λ world. (s : State) × StandsInMemory world s
-            × IsOpened commits s × (s.history ≡ begun)) }
         ensures empty { IfOk result (λ world. StandsInMemory world (empty commits)) }
         ensures no_failures { IfOk result HasNoFailures }
     {
