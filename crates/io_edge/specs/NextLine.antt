@@ -1,15 +1,9 @@
 -- What a call for the next line answers. For callers.
-use Rattle.std.specs.Prelude.{◌≡◌, ◌≤◌, ◌+◌, ◌⊎◌, ℕ, IsTrue, Result, Ok, Err, List, [], ◌∷◌, ◌++◌, length, codes}
+use Rattle.std.specs.Prelude.{◌≡◌, ◌≤◌, ◌+◌, ◌⊎◌, ℕ, IsTrue, Result, Ok, Err, List, [], ◌∷◌, ◌++◌, length}
 use Rattle.io_edge.specs.Lines.{TextLine, Whole, TooLong, Reading, lines_left, HasWholeLine}
 use Rattle.io_edge.specs.declared.lines.Line.{Line}
 use Rattle.io_edge.specs.declared.lines.Line.TheVariants.{Text, Long, End}
 use Rattle.io_edge.specs.declared.lines.LineFault.{LineFault}
-use Rattle.io_edge.specs.declared.lines.LineFault.TheVariants as fault
-
--- how a fault is printed
-abbrev pub fault_text : LineFault → List ℕ
-fault_text fault.Source = codes "the source failed"
-fault_text fault.TooLong = codes "the input is too long"
 
 -- the line that is answered, if one is
 abbrev pub answered : Result Line LineFault → List ℕ → List TextLine

@@ -1,15 +1,10 @@
 -- What a sink is given, and a sink in memory. For callers.
-use Rattle.std.specs.Prelude.{◌≡◌, ℕ, Option, Result, Ok, Err, Bool, true, false, List, ◌++◌, ◌==◌, codes}
+use Rattle.std.specs.Prelude.{◌≡◌, ℕ, Option, Result, Ok, Err, Bool, true, false, List, ◌++◌, ◌==◌}
 use Rattle.std.specs.List.{list_any}
 use Rattle.std.specs.Io.KnownBytes.{Appends}
 use Rattle.io_edge.specs.Faults.{counted}
 use Rattle.io_edge.specs.declared.sinks.PutFault.{PutFault}
 use Rattle.io_edge.specs.declared.sinks.PutFault.TheVariants.{Failed, NoMemory}
-
--- how a fault is printed
-abbrev pub fault_text : PutFault → List ℕ
-fault_text Failed = codes "the sink failed"
-fault_text NoMemory = codes "out of memory"
 
 -- whether the put failed
 abbrev pub is_failed : Result (Unit {0}) PutFault → Bool

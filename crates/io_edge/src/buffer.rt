@@ -83,6 +83,7 @@ impl Buffer {
         self.text_end = self.start + text_len;
         self.start += len;
     }
+
     /// Takes the next bytes of the source, at most so many, behind those that are held. The text is gone.
     pub(crate) fn fill<S: Source>(&mut self, source: &mut S, most: u64) -> Take
         requires some { 0 < most }

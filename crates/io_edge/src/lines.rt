@@ -7,15 +7,14 @@ ghost use Rattle.io_edge.specs.Faults.{Rose};
 ghost use Rattle.io_edge.specs.Source.{Leaves};
 ghost use Rattle.io_edge.specs.Cut.{HasNoLf, EndsAt};
 ghost use Rattle.io_edge.specs.Lines.{without_cr, lines_left, HasWholeLine, IsAtLimit, IsFinished, AwaitsBytes, done_bytes};
-ghost use Rattle.io_edge.specs.NextLine.{fault_text, Answers, Counts, Told, OnLine, OnText, OnNoText, CanAnswer};
+ghost use Rattle.io_edge.specs.NextLine.{Answers, Counts, Told, OnLine, OnText, OnNoText, CanAnswer};
 ghost use Rattle.io_edge.specs.Steps.{IsSound, front_line, behind_line, CutsLine, AnswersHeld, NeedsMore, IsEndOf, Reads};
 
 use crate::buffer::{Buffer, CAPACITY};
 use crate::sources::{Source, Take};
 use std::alloc::{AllocError, Global};
-use std::error::Error;
-use std::fmt;
 use std::marker::Model;
+use thiserror::Error;
 
 /// The longest line that is answered, in bytes, without its end.
 pub const LONGEST_LINE: usize = 65_536;
@@ -36,27 +35,16 @@ pub enum Line {
 }
 
 /// Why a call for the next line answers none.
-#[derive(Clone, Copy, Debug, PartialEq, Eq)]
+#[derive(Clone, Copy, Debug, PartialEq, Eq, Error)]
 pub enum LineFault {
     /// The source failed before the limit was reached, and no whole line is left to answer. Nothing is lost: the call
     /// can be made again.
+    #[error("the source failed")]
     Source,
     /// As many bytes were taken as the limit allows, the end was not met, and no whole line is left to answer.
+    #[error("the input is too long")]
     TooLong,
 }
-
-impl fmt::Display for LineFault {
-    ghost output = { λ fault. Some (fault_text fault) };
-
-    fn fmt<W: fmt::Write>(&self, f: &mut fmt::Formatter<W>) -> fmt::Result {
-        match self {
-            LineFault::Source => write!(f, "the source failed"),
-            LineFault::TooLong => write!(f, "the input is too long"),
-        }
-    }
-}
-
-impl Error for LineFault {}
 
 /// The lines of a source, one after the other. A line ends at LF, and one CR directly before the LF is
 /// dropped. A last line without LF is a line, and keeps its CR. All memory is taken at the start.
@@ -97,7 +85,8 @@ impl Model for Lines {
 }
 
 impl Lines {
-    /// The lines of a source of which at most `limit` bytes are taken. All its memory is taken here.
+    /// The lines of a source of which at most `limit` bytes are taken. All its memory, a block of 128 KiB, is taken
+    /// here; fails only where there is none.
     pub fn new(alloc: Global, limit: u64) -> Result<Lines, AllocError>
         ensures { IfOk result (λ lines. lines ≡ record {
           pending = [];
@@ -146,7 +135,7 @@ impl Lines {
         ensures no_text { OnNoText result (self.new.text ≡ []) }
 
         ensures source_fault { result ≡ Err LineFault.Source
-            → Rose (S.faults source.old) (S.faults source.new) × ¬ HasWholeLine self.new }
+            → Rose (S.faults source.old) (S.faults source.new) }
         ensures below_limit { result ≡ Err LineFault.Source → self.new.taken < self.new.limit }
         ensures too_long { result ≡ Err LineFault.TooLong → IsAtLimit self.new }
         ensures at_limit { IsAtLimit self.old → result ≡ Err LineFault.TooLong }

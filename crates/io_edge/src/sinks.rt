@@ -1,35 +1,23 @@
 //! What bytes are put into.
-ghost use Rattle.std.specs.Prelude.{◌≡◌, ◌<◌, ◌≤◌, ◌^◌, ℕ, List, [], Option, Some, OnOk};
+ghost use Rattle.std.specs.Prelude.{◌≡◌, ◌<◌, ◌≤◌, ◌^◌, ℕ, List, [], Option, OnOk};
 ghost use Rattle.std.specs.Io.KnownBytes.{Appends};
 ghost use Rattle.io_edge.specs.Faults.{Rose};
-ghost use Rattle.io_edge.specs.Sink.{OnFailed, OnNoMemory, AppendsPrefix, fault_text};
+ghost use Rattle.io_edge.specs.Sink.{OnFailed, OnNoMemory, AppendsPrefix};
 ghost use Rattle.io_edge.specs.declared.sinks.PutFault.TheVariants.{NoMemory};
 
 use std::alloc::AllocError;
-use std::error::Error;
-use std::fmt;
+use thiserror::Error;
 
 /// Why a put did not succeed.
-#[derive(Clone, Copy, Debug, PartialEq, Eq)]
+#[derive(Clone, Copy, Debug, PartialEq, Eq, Error)]
 pub enum PutFault {
     /// The sink failed, and counted a fault. Some of the bytes, from the first on, may have been put.
+    #[error("the sink failed")]
     Failed,
     /// No memory was left. Nothing was put.
+    #[error("out of memory")]
     NoMemory,
 }
-
-impl fmt::Display for PutFault {
-    ghost output = { λ fault. Some (fault_text fault) };
-
-    fn fmt<W: fmt::Write>(&self, f: &mut fmt::Formatter<W>) -> fmt::Result {
-        match self {
-            PutFault::Failed => write!(f, "the sink failed"),
-            PutFault::NoMemory => write!(f, "out of memory"),
-        }
-    }
-}
-
-impl Error for PutFault {}
 
 impl From<AllocError> for PutFault {
     ghost from_gives = { λ _ fault. fault ≡ NoMemory };

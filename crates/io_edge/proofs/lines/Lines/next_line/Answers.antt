@@ -57,10 +57,7 @@ returns-in_err-take_piece g c =
       rises = tt;
       text = tt;
       no_text = c.take_piece.ensures.text;
-      source_fault = λ e. (
-        rose_after _ _ _ (count_of left faults _ _ _ _ start) c.in_err-take_piece.ensures.rose,
-        no_whole_line c.take_piece.new.self c.in_err-take_piece.ensures.none c.in_err-take_piece.ensures.not_ended,
-      );
+      source_fault = λ e. rose_after _ _ _ (count_of left faults _ _ _ _ start) c.in_err-take_piece.ensures.rose;
       below_limit = λ e. c.in_err-take_piece.ensures.below;
       too_long = λ e. absurd (not_too_long _ (fault.2 ∙ c.in_err-take_piece.ensures.fault) e);
       at_limit = λ h. absurd (under.none (can_at_limit _ h));
