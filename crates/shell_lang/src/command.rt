@@ -472,8 +472,8 @@ fn is_name_byte(byte: u8) -> bool
     byte.is_ascii_alphanumeric() || byte == b'_'
 }
 
-// The bytes before the first space, and those after it.
-fn split_at_space(bytes: &[u8]) -> Option<(&[u8], &[u8])>
+/// The bytes before the first space, and those after it. `None` where there is no space.
+pub fn split_at_space(bytes: &[u8]) -> Option<(&[u8], &[u8])>
     ensures parts { IfSome result (λ parts. bytes.now ≡ parts.0.now ++ 32 ∷ parts.1.now) }
     ensures first { IfSome result (λ parts. HasNoSpace parts.0.now) }
     ensures none { IfNone result (HasNoSpace bytes.now) }

@@ -7,6 +7,8 @@ mod word;
 
 pub use command::{
     Command, LARGEST_DENOMINATOR, LONGEST_NAME, LineRefusal, MOST_SD_RECORDS, MOST_SIMILAR,
-    MolfileChange, TakenLines, ends_molfile, one_reading, read_command, taken_lines,
+    MolfileChange, TakenLines, ends_molfile, one_reading, read_command, split_at_space,
+    taken_lines,
 };
 pub use reply::{Refusal, Reply, data_text, reply_text};
+pub use word::are_same;

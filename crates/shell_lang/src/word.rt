@@ -97,7 +97,7 @@ impl Word {
 }
 
 /// Whether the bytes are the same.
-pub(crate) fn are_same(bytes: &[u8], others: &[u8]) -> bool
+pub fn are_same(bytes: &[u8], others: &[u8]) -> bool
     ensures same { OnTrue result (bytes.now ≡ others.now) }
     ensures other { OnFalse result (bytes.now ≢ others.now) }
 {
