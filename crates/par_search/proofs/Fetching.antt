@@ -122,30 +122,6 @@ module _ {S : Type 0} {of : meaning.Ghosts S} (slot size : ℕ) (want : List Boo
   fetching-few {pages = pages} {count = count} w le =
       omega (arith, small-few (take count pages) w.small, w.tried, length-take-le count pages le)
 
-  -- all pages were fetched, or no page follows
-  pub fetching-done : {old now : S} {pages : List PageTerm} {count : ℕ} {f : Fetched}
-      → Fetching of old now slot size want place pages count f → count ≤ length pages
-      → (f.from ≢ None → count ≡ length pages)
-      → HasFetched of old now slot size want place pages f
-  fetching-done {pages = pages} {count = count} {f = f} w le end = record {
-    calls = w.calls;
-    made = w.made;
-    fetches = w.fetches;
-    answered = subst (λ (o : Option SearchFault). AreAnswered o w.calls) (sym w.fault) w.answered;
-    within = omega (arith, le, w.count_is);
-    small = subst (λ n. AreSmall (take n pages)) (sym w.count_is) w.small;
-    records = w.records ∙ ap (λ n. founds_in (take n pages)) (sym w.count_is);
-    tried = w.tried ∙ ap (λ n. length (records_in (take n pages))) (sym w.count_is);
-    full = λ e n. w.number ∙ end n;
-    whole = λ e n. w.count_is ∙ end n;
-    from = w.from;
-    worn = λ e. absurd (no_fault f.fault w.fault e);
-    held = w.held;
-    bounds = w.bounds;
-  } where
-    no_fault : (o : Option SearchFault) → o ≡ None → o ≡ Some fault.Worn → ⊥
-    no_fault o e k = cc
-
   -- a fetch failed
   pub fetching-failed : (joins : (a b c : S) (xs ys : Calls) → Makes of a b xs → Makes of b c ys → Makes of a c (xs ++ ys))
       → {old now new : S} {pages pages' : List PageTerm} {count : ℕ} {f g : Fetched} (from : ℕ) (records : List Shared)

@@ -1,10 +1,11 @@
 -- Groups of pages, one behind the other: what was fetched of all of them, and the hits of their records.
-use Rattle.std.proofs.Common.{◌≡◌, ◌≢◌, ◌+◌, ◌-◌, ◌*◌, ◌++◌, ◌≤◌, ◌∙◌, All, ap, ap₂, arith, Bool, drop, IfSome, length, length-append, List, [], ◌∷◌, None, Option, refl, Some, subst, sym, take, ℕ}
-use Rattle.std.proofs.Math.Seq.{take-add, take-append-add, take_all}
+use Rattle.std.proofs.Common.{◌≡◌, ◌≢◌, ◌+◌, ◌-◌, ◌*◌, ◌++◌, ◌≤◌, ◌∙◌, All, ap, ap₂, append_assoc, arith, Bool, drop, IfSome, length, length-append, List, [], ◌∷◌, None, Option, refl, Some, subst, sym, take, ℕ}
+use Rattle.std.proofs.Math.Seq.{drop-append_seam, take-add, take-append-add, take-append_seam, take_all}
 use Rattle.std.proofs.lemmas.List.{drop-take}
 use Rattle.std.proofs.lemmas.Grind.{flat_map-append}
 use Rattle.std.specs.Int.{div_ceil}
 use Rattle.smarts_parse.specs.Pattern.{PatternTerm}
+use Rattle.snap_registry.specs.declared.Pin.{Pin}
 use Rattle.store_core.specs.Records.{PageTerm}
 use Rattle.store_core.specs.declared.service.Service as meaning
 use Rattle.store_machine.specs.Answers.{AreMatched}
@@ -12,9 +13,9 @@ use Rattle.store_machine.specs.Searches.{Place, fetched, records_of}
 use Rattle.par_search.specs.Batches.{AreAnswered}
 use Rattle.par_search.specs.Fetches.{AreFetches, ArePages, Calls, Makes}
 use Rattle.par_search.specs.Flags.{WorkerTerm}
-use Rattle.par_search.specs.Groups.{AreBoth, CanMatch, CanSearch}
+use Rattle.par_search.specs.Groups.{AreBoth, CanMatch, CanSearch, GoesOn, HasMatched}
 use Rattle.par_search.specs.Searches.{place_of}
-use Rattle.par_search.specs.Shares.{AreSmall, HasFetched, records_in}
+use Rattle.par_search.specs.Shares.{AreSmall, CanFetch, FetchesInto, HasFetched, records_in}
 use Rattle.par_search.specs.declared.batch.Fetched.{Fetched}
 use Rattle.par_search.specs.declared.fault.SearchFault.{SearchFault}
 use Rattle.par_search.specs.declared.fault.SearchFault.TheVariants as fault
@@ -22,7 +23,7 @@ use Rattle.par_search.specs.declared.worker.TheConstants.{MOST_RECORDS}
 use Rattle.par_search.proofs.Held.{held-more, not_raised-more}
 use Rattle.par_search.proofs.Joining.{founds_in, founds_in-append, joined-few}
 use Rattle.par_search.proofs.Paged.{fetched-append, fetches-append, pages-append, records-append}
-use Rattle.par_search.proofs.Rooming.{kept, page_rooms, rooms, same-length, shares, shares-fit}
+use Rattle.par_search.proofs.Rooming.{kept, page_rooms, rooms-between, same-length, shares-fit}
 use Rattle.par_search.proofs.Small.{few-taken, small-append}
 
 -- calls behind pages are answered as they are alone
@@ -109,27 +110,86 @@ module _ {S : Type 0} {of : meaning.Ghosts S} (slot size : ℕ) (want : List Boo
       taken : take h.count (ps ++ qs) ≡ ps ++ take g.count qs
       taken = ap (λ k. take k (ps ++ qs)) (omega (arith, both.count, whole)) ∙ take-append-add ps qs g.count
 
+-- a group of pages that was fetched behind those before it
+pub fetches-more : {S : Type 0} {of : meaning.Ghosts S}
+    → (joins : (a b c : S) (xs ys : Calls) → Makes of a b xs → Makes of b c ys → Makes of a c (xs ++ ys))
+    → {old now new : S} {pin : Pin} {size : ℕ} {want : List Bool} {from start : Option ℕ} {ps qs rs : List PageTerm}
+    {f g h : Fetched} (end next : ℕ)
+    → FetchesInto of old now pin size want from ps qs (take end qs) f → GoesOn f → start ≡ f.from
+    → FetchesInto of now new pin size want start qs rs (take next (drop end rs)) g
+    → take end rs ≡ take end qs → AreBoth f g h
+    → FetchesInto of old new pin size want from ps rs (take (end + next) rs) h
+fetches-more {of = of} joins {old} {now} {new} {pin} {size} {want} {from} {rs = rs} {g = g} {h = h} end next a on at b same both =
+    let ahead = take next (drop end rs) in
+    record {
+      fetched = subst (λ (l : List PageTerm). HasFetched of old new pin.slot size want (place_of from) l h)
+          (ap (λ l. l ++ ahead) (sym same) ∙ sym (take-add end next rs))
+          (fetched-more pin.slot size want (place_of from) joins a.fetched on.0 on.1
+          (subst (λ (o : Option ℕ). HasFetched of now new pin.slot size want (place_of o) ahead g) at b.fetched) both);
+      room = b.room ∙ a.room;
+    }
+
+-- pages that were fetched, between others that stayed
+pub fetches-between : {S : Type 0} {of : meaning.Ghosts S} {old new : S} {pin : Pin} {size : ℕ} {want : List Bool}
+    {from : Option ℕ} {all : List PageTerm} {f : Fetched} (first ps qs behind : List PageTerm) (n m : ℕ)
+    → all ≡ first ++ (ps ++ behind) → length first ≡ m → length ps ≡ n
+    → FetchesInto of old new pin size want from ps qs qs f
+    → FetchesInto of old new pin size want from all (first ++ (qs ++ behind))
+    (take n (drop m (first ++ (qs ++ behind)))) f
+fetches-between {of = of} {old} {new} {pin} {size} {want} {from} {f = f} first ps qs behind n m is start len done =
+    let count : length qs ≡ n = same-length (λ (p : PageTerm). p.room) ps qs done.room ∙ len in
+    let these : take n (drop m (first ++ (qs ++ behind))) ≡ qs =
+    ap (λ k. take n (drop k (first ++ (qs ++ behind)))) (sym start)
+    ∙ ap (λ l. take n l) (drop-append_seam first (qs ++ behind))
+    ∙ ap (λ k. take k (qs ++ behind)) (sym count) ∙ take-append_seam qs behind in
+    record {
+      fetched = subst (λ (l : List PageTerm). HasFetched of old new pin.slot size want (place_of from) l f) (sym these)
+          done.fetched;
+      room = rooms-between first ps qs behind done.room ∙ ap page_rooms (sym is);
+    }
+
+-- what can be fetched behind pages that were fetched
+pub can-fetch-more : {S : Type 0} {of : meaning.Ghosts S} {old now : S} {pin : Pin} {size : ℕ} {want : List Bool}
+    {from start : Option ℕ} {ps qs these : List PageTerm} {f : Fetched}
+    → CanFetch of old pin size from ps → FetchesInto of old now pin size want from ps qs these f → start ≡ f.from
+    → CanFetch of now pin size start qs
+can-fetch-more {pin = pin} {size = size} {ps = ps} {qs = qs} can done at = record {
+  held = (done.fetched.held pin.slot pin.version).1 can.held;
+  some = can.some;
+  few = can.few;
+  in_range = subst (λ (o : Option ℕ). IfSome o (λ n. n ≤ 1000000000)) (sym at) done.fetched.from;
+  few_pages = omega (arith, can.few_pages, same-length (λ (p : PageTerm). p.room) ps qs done.room);
+  room = kept (λ (p : PageTerm). p.room) size ps qs done.room can.room;
+}
+
 -- the hits of a group behind those of the pages before it
-pub matched-more : (p : PatternTerm) (pages : List PageTerm) (start end : ℕ) (hits : List ℕ) → start ≤ end
-    → AreMatched p (founds_in (take start pages) ++ founds_in (drop start (take end pages))) hits
-    → AreMatched p (founds_in (take end pages)) hits
-matched-more p pages start end hits le m =
-    subst (λ l. AreMatched p l hits)
-    (sym (founds_in-append (take start pages) (drop start (take end pages)))
-    ∙ ap founds_in (up-to start end pages le)) m
+pub matched-more : {p : PatternTerm} {ws vs us : List WorkerTerm} {xs ys zs : List ℕ} {a b c : ℕ}
+    (pages : List PageTerm) (start end : ℕ) → start ≤ end
+    → HasMatched p (take start pages) ws vs xs ys a b → HasMatched p (drop start (take end pages)) vs us ys zs b c
+    → HasMatched p (take end pages) ws us xs zs a c
+matched-more {p = p} {zs = zs} pages start end le first next = record {
+  matched = λ before m.
+      subst (λ l. AreMatched p l zs)
+      (append_assoc before (founds_in (take start pages)) (founds_in (drop start (take end pages)))
+      ∙ ap (λ l. before ++ l) (sym (founds_in-append (take start pages) (drop start (take end pages)))
+      ∙ ap founds_in (up-to start end pages le)))
+      (next.matched (before ++ founds_in (take start pages)) (first.matched before m));
+  pieces = next.pieces ∙ first.pieces;
+  share = next.share ∙ first.share;
+  capacity = next.capacity ∙ first.capacity;
+}
 
 -- a group can be matched, where all of the batch can
-pub can-match : (p : PatternTerm) (old pages : List PageTerm) (start end n : ℕ) (ws vs : List WorkerTerm)
-    (hits : List ℕ) (c d : ℕ) → CanSearch p (length old) ws c
-    → page_rooms pages ≡ page_rooms old → rooms vs ≡ rooms ws → shares vs ≡ shares ws → d ≡ c
-    → start ≤ end → AreSmall (take end pages) → AreMatched p (founds_in (take start pages)) hits
+pub can-match : {p : PatternTerm} {ws vs : List WorkerTerm} {hits : List ℕ} {c d : ℕ} (old pages : List PageTerm)
+    (start end n : ℕ) → CanSearch p (length old) ws c → page_rooms pages ≡ page_rooms old
+    → HasMatched p (take start pages) ws vs [] hits c d → start ≤ end → AreSmall (take end pages)
     → n ≡ length (records_in (drop start (take end pages)))
     → CanMatch p (drop start (take end pages)) n vs hits d
-can-match p old pages start end n ws vs hits c d can same room share capacity le small m total =
+can-match {p} {ws} {vs} {hits} old pages start end n can same done le small total =
     let number = same-length (λ (q : PageTerm). q.room) old pages same in
-    let workers = same-length (λ (w : WorkerTerm). w.room) ws vs room in
+    let workers = same-length (λ (w : WorkerTerm). w.room) ws vs done.pieces in
     let few = few-taken end pages small in
-    let found = joined-few p (records_in (take start pages)) hits m in
+    let found = joined-few p (records_in (take start pages)) hits (done.matched [] refl) in
     let sum : length (records_in (take start pages)) + n ≡ length (records_in (take end pages)) =
     omega (
       arith,
@@ -145,8 +205,8 @@ can-match p old pages start end n ws vs hits c d can same room share capacity le
       some = omega (arith, can.some, workers);
       few = omega (arith, can.few, workers);
       share = subst (λ k. All (λ (w : WorkerTerm). div_ceil n k ≤ w.share) vs) (sym workers)
-          (kept (λ (w : WorkerTerm). w.share) (div_ceil n (length ws)) ws vs share
+          (kept (λ (w : WorkerTerm). w.share) (div_ceil n (length ws)) ws vs done.share
           (shares-fit n (length old * MOST_RECORDS) ws ws refl can.some most can.share));
-      hits = omega (arith, found, sum, few, number, can.hits, capacity);
+      hits = omega (arith, found, sum, few, number, can.hits, done.capacity);
       sound = can.sound;
     }

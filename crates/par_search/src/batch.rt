@@ -1,11 +1,7 @@
 //! Pages that are fetched one behind the other, to be searched together.
-ghost use Rattle.std.specs.Prelude.{◌≡◌, ◌≤◌, ◌<◌, ◌+◌, ◌^◌, ◌↔◌, All, IfSome, IsTrue, length, map, ℕ};
-ghost use Rattle.store_core.specs.Records.{PageTerm};
+ghost use Rattle.std.specs.Prelude.{◌<◌, ◌+◌, ◌^◌, ◌↔◌, IsTrue};
 ghost use Rattle.par_search.specs.Groups.{AreBoth, GoesOn};
-ghost use Rattle.par_search.specs.Searches.{place_of};
-ghost use Rattle.par_search.specs.Shares.{HasFetched};
-ghost use Rattle.par_search.specs.declared.batch.TheConstants.{MOST_PAGES};
-ghost use Rattle.par_search.specs.declared.worker.TheConstants.{MOST_RECORDS};
+ghost use Rattle.par_search.specs.Shares.{CanFetch, FetchesInto};
 
 use crate::calls::fetch;
 use crate::fault::SearchFault;
@@ -70,15 +66,9 @@ pub fn fetch_pages<S: Service>(
     service: &mut S,
     pages: &mut [Page],
 ) -> Fetched
-    requires held { S.holds service.old pin.now.slot pin.now.version }
-    requires some { 1 ≤ size }
-    requires few { size ≤ MOST_RECORDS }
-    requires few_pages { length pages.old ≤ MOST_PAGES }
-    requires room { All (λ (p : PageTerm). size ≤ p.room) pages.old }
-    requires from { IfSome from (λ n. n ≤ 1000000000) }
-    ensures fetched { HasFetched S.Service service.old service.new pin.now.slot size want.now
-        (place_of from) pages.new result }
-    ensures room { map {B = ℕ} (λ p. p.room) pages.new ≡ map {B = ℕ} (λ p. p.room) pages.old }
+    requires can_fetch { CanFetch S.Service service.old pin.now size from pages.old }
+    ensures fetched { FetchesInto S.Service service.old service.new pin.now size want.now from
+        pages.old pages.new pages.new result }
 {
     let mut fetched = Fetched {
         count: 0,

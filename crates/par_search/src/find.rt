@@ -28,7 +28,7 @@ pub fn match_pages<R: Threads + Sync, M: Meter>(
     workers: &mut [Worker],
     hits: &mut Vec<u32>,
 )
-    requires can { CanMatch (pattern_of pattern.now) pages.now total workers.old
+    requires can_match { CanMatch (pattern_of pattern.now) pages.now total workers.old
         hits.old.items (vec_capacity hits.old) }
     ensures { HasMatched (pattern_of pattern.now) pages.now workers.old workers.new
         hits.old.items hits.new.items (vec_capacity hits.old) (vec_capacity hits.new) }
@@ -42,8 +42,7 @@ pub fn match_pages<R: Threads + Sync, M: Meter>(
         meter,
     };
     let mut nothing = || {};
-    shares.find_beside(rt, 0, workers, &mut nothing);
-    add_all_hits(workers, hits);
+    shares.match_beside(rt, workers, hits, &mut nothing);
 }
 
 /// Pages that are searched in shares: of so many records, one behind the other, each share has as many, the last ones
@@ -60,6 +59,28 @@ pub struct Shares<'a, M> {
 }
 
 impl<M: Meter> Shares<'_, M> {
+    /// Searches all shares while this thread does something else, and appends their hits.
+    pub fn match_beside<R: Threads + Sync, B, G: FnMut() -> B>(
+        &self,
+        rt: &R,
+        workers: &mut [Worker],
+        hits: &mut Vec<u32>,
+        other: &mut G,
+    ) -> B
+        requires size { self.now.size ≡ div_ceil self.now.total (length workers.old) }
+        requires can_match { CanMatch (pattern_of self.now.pattern.now) self.now.pages.now
+            self.now.total workers.old hits.old.items (vec_capacity hits.old) }
+        requires other { G.pre other.old }
+        ensures matched { HasMatched (pattern_of self.now.pattern.now) self.now.pages.now
+            workers.old workers.new hits.old.items hits.new.items
+            (vec_capacity hits.old) (vec_capacity hits.new) }
+        ensures other { G.step other.old result other.new }
+    {
+        let done = self.find_beside(rt, 0, workers, other);
+        add_all_hits(workers, hits);
+        done
+    }
+
     /// Searches the shares from one on, in threads of their own, where they can be made, while this thread does
     /// something else. It starts the others one behind the other: two that are started at the same time may be given to
     /// one processor.

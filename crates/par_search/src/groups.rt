@@ -1,16 +1,11 @@
 //! A batch of pages that is searched by groups: each group is matched while the next one is fetched.
-ghost use Rattle.std.specs.Prelude.{◌≡◌, ◌≤◌, ◌+◌, All, IfSome, drop, length, map, take, vec_capacity, ℕ};
+ghost use Rattle.std.specs.Prelude.{◌≡◌, ◌≤◌, ◌+◌, [], drop, length, take, vec_capacity};
 ghost use Rattle.smarts_parse.specs.Pattern.{pattern_of};
-ghost use Rattle.store_machine.specs.Answers.{AreMatched};
-ghost use Rattle.store_core.specs.Records.{PageTerm, founds};
 ghost use Rattle.par_search.specs.Groups.{CanMatch, CanSearch, HasMatched};
-ghost use Rattle.par_search.specs.Searches.{place_of};
-ghost use Rattle.par_search.specs.Shares.{HasFetched, records_in};
-ghost use Rattle.par_search.specs.declared.batch.TheConstants.{MOST_PAGES};
-ghost use Rattle.par_search.specs.declared.worker.TheConstants.{MOST_RECORDS};
+ghost use Rattle.par_search.specs.Shares.{CanFetch, FetchesInto};
 
 use crate::batch::{Fetched, fetch_pages};
-use crate::find::{Shares, add_all_hits, match_pages};
+use crate::find::{Shares, match_pages};
 use crate::meter::Meter;
 use crate::worker::Worker;
 use chem_core::Print;
@@ -24,12 +19,14 @@ use store_core::{Page, Service};
 // making the threads that match it.
 const GROUP: usize = 8;
 
-// A group of pages that were fetched and are not matched yet: from one place to another, with this many records.
+// A group of pages that were fetched and are not matched yet: from one place to another, with this many records, and
+// from where the search goes on behind them, `None` at its end.
 #[derive(Clone, Copy)]
 struct Group {
     start: usize,
     end: usize,
     tried: u32,
+    from: Option<u32>,
 }
 
 /// What is asked of each page: it is fetched for a pin, with this many records at most whose print has what is wanted,
@@ -55,22 +52,16 @@ impl<R: Threads + Sync, M: Meter> Task<'_, R, M> {
         workers: &mut [Worker],
         hits: &mut Vec<u32>,
     ) -> Fetched
-        requires held { S.holds service.old self.now.pin.now.slot self.now.pin.now.version }
-        requires some { 1 ≤ self.now.size }
-        requires few { self.now.size ≤ MOST_RECORDS }
-        requires from { IfSome from (λ n. n ≤ 1000000000) }
-        requires few_pages { length pages.old ≤ MOST_PAGES }
-        requires room { All (λ (p : PageTerm). self.now.size ≤ p.room) pages.old }
-        requires can { CanSearch (pattern_of self.now.pattern.now) (length pages.old) workers.old
-            (vec_capacity hits.old) }
-        ensures fetched { HasFetched S.Service service.old service.new self.now.pin.now.slot
-            self.now.size self.now.want.now (place_of from) pages.new result }
-        ensures matched { AreMatched (pattern_of self.now.pattern.now)
-            (founds (records_in (take result.count pages.new))) hits.new.items }
-        ensures page_room { map {B = ℕ} (λ p. p.room) pages.new ≡ map {B = ℕ} (λ p. p.room) pages.old }
-        ensures room { map {B = ℕ} (λ w. w.room) workers.new ≡ map {B = ℕ} (λ w. w.room) workers.old }
-        ensures share { map {B = ℕ} (λ w. w.share) workers.new ≡ map {B = ℕ} (λ w. w.share) workers.old }
-        ensures capacity { vec_capacity hits.new ≡ vec_capacity hits.old }
+        requires can_fetch { CanFetch S.Service service.old
+            self.now.pin.now self.now.size from pages.old }
+        requires can_search { CanSearch (pattern_of self.now.pattern.now) (length pages.old)
+            workers.old (vec_capacity hits.old) }
+        ensures fetched { FetchesInto S.Service service.old service.new
+            self.now.pin.now self.now.size self.now.want.now from
+            pages.old pages.new pages.new result }
+        ensures matched { HasMatched (pattern_of self.now.pattern.now) (take result.count pages.new)
+            workers.old workers.new [] hits.new.items
+            (vec_capacity hits.old) (vec_capacity hits.new) }
     {
         hits.clear();
         let first = GROUP.min(pages.len());
@@ -79,14 +70,16 @@ impl<R: Threads + Sync, M: Meter> Task<'_, R, M> {
             start: 0,
             end: first,
             tried: fetched.tried,
+            from: fetched.from,
         };
         while fetched.goes_on() && group.end < pages.len() {
             let next = GROUP.min(pages.len() - group.end);
-            let more = self.search_group(group, fetched.from, next, service, pages, workers, hits);
+            let more = self.search_group(group, next, service, pages, workers, hits);
             group = Group {
                 start: group.end,
                 end: group.end + next,
                 tried: more.tried,
+                from: more.from,
             };
             fetched = fetched.followed_by(&more);
         }
@@ -111,113 +104,60 @@ impl<R: Threads + Sync, M: Meter> Task<'_, R, M> {
         service: &mut S,
         pages: &mut [Page],
     ) -> Fetched
-        requires held { S.holds service.old self.now.pin.now.slot self.now.pin.now.version }
-        requires some { 1 ≤ self.now.size }
-        requires few { self.now.size ≤ MOST_RECORDS }
-        requires from { IfSome from (λ n. n ≤ 1000000000) }
-        requires few_pages { length pages.old ≤ MOST_PAGES }
-        requires room { All (λ (p : PageTerm). self.now.size ≤ p.room) pages.old }
+        requires can_fetch { CanFetch S.Service service.old
+            self.now.pin.now self.now.size from pages.old }
         requires within { number ≤ length pages.old }
-        ensures fetched { HasFetched S.Service service.old service.new self.now.pin.now.slot
-            self.now.size self.now.want.now (place_of from) (take number pages.new) result }
-        ensures room { map {B = ℕ} (λ p. p.room) pages.new ≡ map {B = ℕ} (λ p. p.room) pages.old }
+        ensures fetched { FetchesInto S.Service service.old service.new
+            self.now.pin.now self.now.size self.now.want.now from
+            pages.old pages.new (take number pages.new) result }
     {
         let (first, _) = pages.split_at_mut(number);
         fetch_pages(self.pin, self.want, self.size, from, service, first)
     }
 
-    // Matches a group while the pages behind it, this many, are fetched.
+    // Matches a group in other threads while the pages behind it, this many, are fetched in this one.
     fn search_group<S: Service>(
         &self,
         group: Group,
-        from: Option<u32>,
         next: usize,
         service: &mut S,
         pages: &mut [Page],
         workers: &mut [Worker],
         hits: &mut Vec<u32>,
     ) -> Fetched
-        requires held { S.holds service.old self.now.pin.now.slot self.now.pin.now.version }
-        requires some { 1 ≤ self.now.size }
-        requires few { self.now.size ≤ MOST_RECORDS }
-        requires from { IfSome from (λ n. n ≤ 1000000000) }
-        requires few_pages { length pages.old ≤ MOST_PAGES }
-        requires room { All (λ (p : PageTerm). self.now.size ≤ p.room) pages.old }
+        requires can_fetch { CanFetch S.Service service.old
+            self.now.pin.now self.now.size group.from pages.old }
         requires order { group.start ≤ group.end }
         requires within { group.end + next ≤ length pages.old }
-        requires can { CanMatch (pattern_of self.now.pattern.now)
+        requires can_match { CanMatch (pattern_of self.now.pattern.now)
             (drop group.start (take group.end pages.old)) group.tried workers.old
             hits.old.items (vec_capacity hits.old) }
-        ensures fetched { HasFetched S.Service service.old service.new self.now.pin.now.slot
-            self.now.size self.now.want.now (place_of from) (take next (drop group.end pages.new)) result }
+        ensures fetched { FetchesInto S.Service service.old service.new
+            self.now.pin.now self.now.size self.now.want.now group.from
+            pages.old pages.new (take next (drop group.end pages.new)) result }
         ensures kept { take group.end pages.new ≡ take group.end pages.old }
-        ensures room { map {B = ℕ} (λ p. p.room) pages.new ≡ map {B = ℕ} (λ p. p.room) pages.old }
         ensures matched { HasMatched (pattern_of self.now.pattern.now)
             (drop group.start (take group.end pages.old)) workers.old workers.new
             hits.old.items hits.new.items (vec_capacity hits.old) (vec_capacity hits.new) }
     {
         let (done, behind) = pages.split_at_mut(group.end);
         let (ahead, _) = behind.split_at_mut(next);
-        let done = between(done, group.start, group.end);
-        self.match_beside(done, group.tried, from, service, ahead, workers, hits)
-    }
-
-    // Matches pages in another thread while others are fetched in this one.
-    fn match_beside<S: Service>(
-        &self,
-        done: &[Page],
-        tried: u32,
-        from: Option<u32>,
-        service: &mut S,
-        ahead: &mut [Page],
-        workers: &mut [Worker],
-        hits: &mut Vec<u32>,
-    ) -> Fetched
-        requires held { S.holds service.old self.now.pin.now.slot self.now.pin.now.version }
-        requires some { 1 ≤ self.now.size }
-        requires few { self.now.size ≤ MOST_RECORDS }
-        requires from { IfSome from (λ n. n ≤ 1000000000) }
-        requires few_pages { length ahead.old ≤ MOST_PAGES }
-        requires room { All (λ (p : PageTerm). self.now.size ≤ p.room) ahead.old }
-        requires can { CanMatch (pattern_of self.now.pattern.now) done.now tried workers.old
-            hits.old.items (vec_capacity hits.old) }
-        ensures fetched { HasFetched S.Service service.old service.new self.now.pin.now.slot
-            self.now.size self.now.want.now (place_of from) ahead.new result }
-        ensures room { map {B = ℕ} (λ p. p.room) ahead.new ≡ map {B = ℕ} (λ p. p.room) ahead.old }
-        ensures matched { HasMatched (pattern_of self.now.pattern.now) done.now
-            workers.old workers.new hits.old.items hits.new.items (vec_capacity hits.old) (vec_capacity hits.new) }
-    {
-        let Task {
-            rt,
-            pin,
-            want,
-            size,
-            pattern,
-            meter,
-        } = *self;
         let shares = Shares {
-            pages: done,
-            total: tried,
-            size: tried.div_ceil(workers.len() as u32),
+            pages: between(done, group.start, group.end),
+            total: group.tried,
+            size: group.tried.div_ceil(workers.len() as u32),
             apart: workers.len(),
-            pattern,
-            meter,
+            pattern: self.pattern,
+            meter: self.meter,
         };
+        let (pin, want, size, from) = (self.pin, self.want, self.size, group.from);
         let mut fetching = || -> Fetched
-            requires held { S.holds service.now pin.now.slot pin.now.version }
-            requires some { 1 ≤ size }
-            requires few { size ≤ MOST_RECORDS }
-            requires from { IfSome from (λ n. n ≤ 1000000000) }
-            requires few_pages { length ahead.now ≤ MOST_PAGES }
-            requires room { All (λ (p : PageTerm). size ≤ p.room) ahead.now }
-            ensures fetched { HasFetched S.Service service.entry.now service.exit.now
-                pin.entry.now.slot size want.entry.now (place_of from) ahead.exit.now result }
-            ensures room { map {B = ℕ} (λ p. p.room) ahead.exit.now
-                ≡ map {B = ℕ} (λ p. p.room) ahead.entry.now }
+            requires can_fetch { CanFetch S.Service service.now pin.now size from ahead.now }
+            ensures fetched { FetchesInto S.Service service.entry.now service.exit.now
+                pin.entry.now size want.entry.now from
+                ahead.entry.now ahead.exit.now ahead.exit.now result }
         { fetch_pages(pin, want, size, from, service, ahead) };
-        let fetched = shares.find_beside(rt, 0, workers, &mut fetching);
-        add_all_hits(workers, hits);
-        fetched
+        shares.match_beside(self.rt, workers, hits, &mut fetching)
     }
 }
 

@@ -12,8 +12,8 @@ returns-clause-room g c =
     let len : length workers ≡ self.workers.len = omega (arith, c.search.auto.workers, c.deref_mut-2.ensures.len) in
     let is = with_items_is self.workers workers len in
     kept-room self _ c.requires.room refl refl
-    (ap page_rooms (with_items_is self.batch pages number) ∙ (c.search.ensures.page_room
+    (ap page_rooms (with_items_is self.batch pages number) ∙ (c.search.ensures.fetched.room
     ∙ ap page_rooms c.deref_mut.ensures.value))
-    c.search.ensures.capacity
-    (ap rooms is ∙ (c.search.ensures.room ∙ ap rooms c.deref_mut-2.ensures.value))
-    (ap shares is ∙ (c.search.ensures.share ∙ ap shares c.deref_mut-2.ensures.value))
+    c.search.ensures.matched.capacity
+    (ap rooms is ∙ (c.search.ensures.matched.pieces ∙ ap rooms c.deref_mut-2.ensures.value))
+    (ap shares is ∙ (c.search.ensures.matched.share ∙ ap shares c.deref_mut-2.ensures.value))
