@@ -1,5 +1,5 @@
 -- Pages that are fetched one behind the other.
-use Rattle.std.proofs.Common.{◌≡◌, ◌≢◌, ◌+◌, ◌*◌, ◌++◌, ◌<◌, ◌≤◌, ◌∙◌, ap, append-nil, arith, Bool, Err, IfSome, length, length-append, List, [], ◌∷◌, None, Ok, Option, refl, set, Some, subst, sym, take, true, ℕ}
+use Rattle.std.proofs.Common.{◌≡◌, ◌+◌, ◌*◌, ◌++◌, ◌<◌, ◌≤◌, ◌∙◌, ap, append-nil, arith, Bool, Err, IfSome, length, length-append, List, [], ◌∷◌, None, Ok, Option, refl, set, Some, subst, sym, take, true, ℕ}
 use Rattle.std.proofs.lemmas.List.{length-take-le, take_more_set}
 use Rattle.store_core.specs.Calls.{NotRaised, SameHeld, is_worn}
 use Rattle.store_core.specs.Records.{PageTerm, Shared, founds}

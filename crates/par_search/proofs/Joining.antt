@@ -1,5 +1,5 @@
 -- The hits of shares, one behind the other.
-use Rattle.std.proofs.Common.{◌≡◌, ◌+◌, ◌*◌, ◌++◌, ◌≤◌, ◌∙◌, ap, ap₂, append_assoc, arith, drop, length, List, [], ◌∷◌, refl, slice_get, Some, subst, suc, sym, take, zero, ℕ}
+use Rattle.std.proofs.Common.{◌≡◌, ◌+◌, ◌*◌, ◌++◌, ◌≤◌, ◌∙◌, ap, ap₂, append_assoc, arith, drop, length, List, [], ◌∷◌, refl, subst, suc, sym, take, zero, ℕ}
 use Rattle.std.proofs.Math.Seq.{take-add}
 use Rattle.std.proofs.lemmas.Grind.{flat_map-append}
 use Rattle.std.proofs.lemmas.List.{drop-drop, length-map, map-append}

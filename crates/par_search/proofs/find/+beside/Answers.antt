@@ -1,4 +1,4 @@
-use Rattle.std.proofs.Common.{◌≡◌, ◌≤◌, ◌∷◌, All, arith, length, List, subst, suc, ℕ}
+use Rattle.std.proofs.Common.{◌≡◌, ◌≤◌, ◌∷◌, All, arith, List, subst, suc, ℕ}
 use Rattle.smarts_parse.specs.Pattern.{pattern_of}
 use Rattle.par_search.specs.Flags.{WorkerTerm}
 use Rattle.par_search.specs.Shares.{records_in}
