@@ -3,6 +3,7 @@ use Rattle.std.specs.Prelude.{◌≢◌, ◌≤◌, ◌+◌, ◌-◌, ◌^◌, A
 use Rattle.std.specs.Borrow.{Bor}
 use Rattle.std.specs.Str.{bytes_eq}
 use Rattle.smarts_parse.specs.declared.pattern.Pattern.{Pattern}
+use Rattle.watch_list.specs.declared.list.TheConstants.{MOST_WATCHES}
 
 -- a watch: its name, its pattern, the version of its list, the list of its hits, and how often it was given another
 -- list
@@ -18,9 +19,9 @@ pub record WatchesTerm : Type 0 where
   pub watches : List Watch
   pub reserved : Bool
 
--- at most 16, with distinct names
+-- at most as many as may be watched at once, with distinct names
 pub record AreWatches (watches : List Watch) : Type 0 where
-  pub few : length watches ≤ 16
+  pub few : length watches ≤ MOST_WATCHES
   pub distinct : AllPairs (λ x y. x ≢ y) (map (λ w. w.name) watches)
 
 abbrev pub is_named : List ℕ → Watch → Bool
