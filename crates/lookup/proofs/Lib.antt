@@ -2,6 +2,7 @@ pub mod Held
 pub mod Seen
 pub mod Walking
 pub mod Looked
+pub mod Listed
 pub mod Picked
 pub mod Offered
 pub mod Prints

@@ -1,5 +1,5 @@
 -- What a lookup did, by its parts: a pin, its pages, and the pin is given back.
-use Rattle.std.proofs.Common.{◌≡◌, ◌≢◌, ◌⊎◌, ◌↔◌, ◌++◌, append-nil, Bool, Err, length, List, [], None, Ok, Option, refl, Result, Some, subst, sym, ℕ}
+use Rattle.std.proofs.Common.{◌≡◌, ◌≢◌, ◌⊎◌, ◌↔◌, ◌++◌, append-nil, Bool, Err, IfOk, IsErrAnd, IsOkUnless, length, List, [], None, Ok, Option, refl, Result, Some, subst, sym, ℕ}
 use Rattle.par_search.specs.Faults.{fault_of}
 use Rattle.par_search.specs.declared.fault.SearchFault.{SearchFault}
 use Rattle.par_search.specs.declared.fault.SearchFault.TheVariants as faults
@@ -88,6 +88,32 @@ looks-fault Is' (NoneFree made held) = NoneFree made held
 looks-fault Is' (WornBefore made held worn) = WornBefore made held worn
 looks-fault Is' (WornAfter place k made held worn) = WornAfter place k made held worn
 
+-- the result of a `?`, after a fault
+pub looks-passed : {S X Y : Type 0} {of : meaning.Ghosts S} {old new : S} {size : ℕ} {want : List Bool}
+    {Is : ℕ → List Found → X → Type 0} (Is' : ℕ → List Found → Y → Type 0) (fault : SearchFault)
+    (r : Result Y SearchFault) → IsErrAnd r (λ e. e ≡ fault) → Looks of old new size want Is (Err fault)
+    → Looks of old new size want Is' r
+looks-passed Is' fault (Ok y) same l = absurd same
+looks-passed Is' fault (Err e) same l = same-fault fault e same (looks-fault Is' l)
+
+-- and where memory was wanted before any call
+pub looks-unasked : {S Y : Type 0} {of : meaning.Ghosts S} {old : S} {size : ℕ} {want : List Bool}
+    (Is' : ℕ → List Found → Y → Type 0) (r : Result Y SearchFault) → IsErrAnd r (λ e. e ≡ faults.NoMemory)
+    → Makes of old old [] → Looks of old old size want Is' r
+looks-unasked {of = of} {old = old} {size = size} {want = want} Is' r same none =
+    let unasked : Looks of old old size want Is' (Err faults.NoMemory) = Unasked none (held-same (of.holds old)) in
+    looks-passed Is' faults.NoMemory r same unasked
+
+-- what was found is listed, or is of no use
+pub looks-listed : {S X Y : Type 0} {of : meaning.Ghosts S} {old new : S} {size : ℕ} {want : List Bool}
+    {Is : ℕ → List Found → X → Type 0} {x : X} → Looks of old new size want Is (Ok x)
+    → (Is' : ℕ → List Found → Y → Type 0) (r : Result Y SearchFault) → IsOkUnless r faults.NoMemory
+    → ((version : ℕ) (records : List Found) → Is version records x → IfOk r (Is' version records))
+    → Looks of old new size want Is' r
+looks-listed (Whole x k made held is) Is' (Ok y) memory h = Whole y k made held (h _ _ is)
+looks-listed (Whole x k made held is) Is' (Err e) memory h =
+    same-fault faults.NoMemory e memory (CutShort End k made held)
+
 -- a lookup unless a version is known
 pub looked-some : {S X : Type 0} {of : meaning.Ghosts S} {old new : S} {size known : ℕ} {want : List Bool}
     {Is : ℕ → List Found → X → Type 0} {x : X} → LooksUnless known of old new size want Is (Ok (Some x))
@@ -98,6 +124,13 @@ pub looked-none : {S X Y : Type 0} {of : meaning.Ghosts S} {old new : S} {size k
     {Is : ℕ → List Found → X → Type 0} (Is' : ℕ → List Found → Y → Type 0)
     → LooksUnless known of old new size want Is (Ok None) → LooksUnless known of old new size want Is' (Ok None)
 looked-none Is' (Known f none is made held) = Known f none is made held
+
+pub looked-passed : {S X Y : Type 0} {of : meaning.Ghosts S} {old new : S} {size known : ℕ} {want : List Bool}
+    {Is : ℕ → List Found → X → Type 0} (Is' : ℕ → List Found → Y → Type 0) (fault : SearchFault)
+    (r : Result (Option Y) SearchFault) → IsErrAnd r (λ e. e ≡ fault) → Looks of old new size want Is (Err fault)
+    → LooksUnless known of old new size want Is' r
+looked-passed Is' fault (Ok y) same l = absurd same
+looked-passed Is' fault (Err e) same l = Failed e (same-fault fault e same (looks-fault Is' l))
 
 pub looked-fault : {S X : Type 0} {of : meaning.Ghosts S} {old new : S} {size known : ℕ} {want : List Bool}
     {Is : ℕ → List Found → X → Type 0} {fault : SearchFault} → LooksUnless known of old new size want Is (Err fault)

@@ -44,13 +44,6 @@ abbrev pub Saw : {V G : Type 0} → (V → G → V → List Found → Type 0) �
 Saw {V} has_seen given old new records = (start : V) (before : List Found) → has_seen start given old before
     → has_seen start given new (before ++ records)
 
--- keys of which the same is said
-pub record IsOneKey (k l : Key) : Type 0 where
-  pub atoms : k.atoms ≡ l.atoms
-  pub bonds : k.bonds ≡ l.bonds
-  pub sum_of : k.sum ≡ l.sum
-  pub squares : k.squares ≡ l.squares
-
 -- of some records those that are the same as a molecule, whose key this is
 pub record HasPicked (m : Molecule) (key : Key) (records : List Found) (hits : List ℕ) : Type 0 where
   pub molecule : IsMolecule m

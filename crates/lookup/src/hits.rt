@@ -1,14 +1,16 @@
 //! The identifiers that a pattern matches.
-ghost use Rattle.std.specs.Prelude.{◌≡◌, ◌≤◌, [], Bool, IfOk, IsTrue, List};
+ghost use Rattle.std.specs.Prelude.{◌≡◌, ◌≤◌, ◌↔◌, [], Bool, IfOk, IsOk, IsOkUnless, IsTrue, List};
 ghost use Rattle.std.specs.List.Sorted.{IsStrictlyIncreasing};
 ghost use Rattle.smarts_parse.specs.Pattern.{pattern_of};
 ghost use Rattle.smarts_parse.specs.Sound.{IsSoundPattern};
+ghost use Rattle.par_search.specs.declared.fault.SearchFault.TheVariants.{NoMemory};
 ghost use Rattle.store_core.specs.Calls.{NotRaised};
+ghost use Rattle.store_core.specs.declared.page.TheConstants.{MOST_RECORDS};
 ghost use Rattle.store_machine.specs.Structures.{IsNeedOf};
 ghost use Rattle.lookup.specs.Fetches.{Looks, LooksUnless};
 ghost use Rattle.lookup.specs.Lists.{IsHitList};
 
-use crate::pages::{Visit, see_head, see_newer};
+use crate::pages::{Seen, Visit, see_head, see_newer};
 use matcher::{Scratch, has};
 use mol_finish::one_structure;
 use par_search::SearchFault;
@@ -36,28 +38,15 @@ pub fn find_hits<S: Service>(
 ) -> Result<HitList, SearchFault>
     requires sound { IsSoundPattern (pattern_of pattern.now) }
     requires some { 1 ≤ page_size }
-    requires few { page_size ≤ 256 }
+    requires few { page_size ≤ MOST_RECORDS }
     ensures looks { (want : List Bool) × IsNeedOf (pattern_of pattern.now) want
         × Looks S.Service service.old service.new page_size want (IsHitList (pattern_of pattern.now)) result }
     ensures bounds { NotRaised (S.bounds service.old) (S.bounds service.new) }
 {
     let want = need(pattern);
-    let Ok(mut matches) = Matches::new(alloc) else {
-        return Err(SearchFault::NoMemory);
-    };
-    let seen = match see_head(alloc, service, pattern, &want, page_size, &mut matches) {
-        Ok(seen) => seen,
-        Err(fault) => return Err(fault),
-    };
-    // The pages of a store ascend.
-    if !is_ascending(&matches.hits) {
-        return Err(SearchFault::NoMemory);
-    }
-    Ok(HitList {
-        version: seen.version,
-        tried: seen.count,
-        hits: matches.hits,
-    })
+    let mut matches = Matches::new(alloc)?;
+    let seen = see_head(alloc, service, pattern, &want, page_size, &mut matches)?;
+    list_of(seen, matches)
 }
 
 /// The same, unless the version that is pinned is the one that is known: then the pin is given back at once, and there
@@ -71,17 +60,15 @@ pub fn find_newer_hits<S: Service>(
 ) -> Result<Option<HitList>, SearchFault>
     requires sound { IsSoundPattern (pattern_of pattern.now) }
     requires some { 1 ≤ page_size }
-    requires few { page_size ≤ 256 }
+    requires few { page_size ≤ MOST_RECORDS }
     ensures looks { (want : List Bool) × IsNeedOf (pattern_of pattern.now) want
         × LooksUnless known S.Service service.old service.new page_size want
         (IsHitList (pattern_of pattern.now)) result }
     ensures bounds { NotRaised (S.bounds service.old) (S.bounds service.new) }
 {
     let want = need(pattern);
-    let Ok(mut matches) = Matches::new(alloc) else {
-        return Err(SearchFault::NoMemory);
-    };
-    let seen = match see_newer(
+    let mut matches = Matches::new(alloc)?;
+    let seen = see_newer(
         alloc,
         service,
         pattern,
@@ -89,20 +76,12 @@ pub fn find_newer_hits<S: Service>(
         page_size,
         known,
         &mut matches,
-    ) {
-        Ok(Some(seen)) => seen,
-        Ok(None) => return Ok(None),
-        Err(fault) => return Err(fault),
+    )?;
+    let Some(seen) = seen else {
+        return Ok(None);
     };
-    // The pages of a store ascend.
-    if !is_ascending(&matches.hits) {
-        return Err(SearchFault::NoMemory);
-    }
-    Ok(Some(HitList {
-        version: seen.version,
-        tried: seen.count,
-        hits: matches.hits,
-    }))
+    let list = list_of(seen, matches)?;
+    Ok(Some(list))
 }
 
 // Those that a pattern matches.
@@ -143,14 +122,26 @@ impl Visit<Pattern> for Matches {
     }
 }
 
+// The list of what was seen. The pages of a store ascend. Of a service whose pages do not, no list is given.
+fn list_of(seen: Seen, matches: Matches) -> Result<HitList, SearchFault>
+    ensures list { IfOk result (λ list. list
+        ≡ record { version = seen.version; tried = seen.count; hits = matches.hits }) }
+    ensures ascending { IsOk result ↔ IsStrictlyIncreasing matches.hits.items }
+    ensures fault { IsOkUnless result NoMemory }
+{
+    if !is_ascending(&matches.hits) {
+        return Err(SearchFault::NoMemory);
+    }
+    Ok(HitList {
+        version: seen.version,
+        tried: seen.count,
+        hits: matches.hits,
+    })
+}
+
 // Whether each identifier is below the next.
 fn is_ascending(ids: &[u32]) -> bool
-    ensures { IsTrue result → IsStrictlyIncreasing ids.now }
+    ensures { IsTrue result ↔ IsStrictlyIncreasing ids.now }
 {
-    for place in 1..ids.len() {
-        if ids[place - 1] >= ids[place] {
-            return false;
-        }
-    }
-    true
+    ids.is_sorted_by(|a, b| a < b)
 }

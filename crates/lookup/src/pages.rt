@@ -2,6 +2,7 @@
 ghost use Rattle.std.specs.Prelude.{◌≡◌, ◌≢◌, ◌≤◌, ◌∷◌, [], List, OnOk, length};
 ghost use Rattle.store_core.specs.Calls.{NotRaised};
 ghost use Rattle.store_core.specs.Records.{found_of, founds};
+ghost use Rattle.store_core.specs.declared.page.TheConstants.{MOST_RECORDS};
 ghost use Rattle.store_machine.specs.Searches.{past};
 ghost use Rattle.store_machine.specs.declared.machine.Found.{Found};
 ghost use Rattle.lookup.specs.Fetches.{Looks, LooksUnless};
@@ -46,20 +47,16 @@ pub fn see_head<S: Service, G, V: Visit<G>>(
     visitor: &mut V,
 ) -> Result<Seen, SearchFault>
     requires some { 1 ≤ size }
-    requires few { size ≤ 256 }
+    requires few { size ≤ MOST_RECORDS }
     requires given { V.may_be given.now }
     ensures looks { Looks S.Service service.old service.new size want.now
         (λ version records seen. (seen.version ≡ version) × (seen.count ≡ length records)
         × Saw V.has_seen given.now visitor.old visitor.new records) result }
     ensures bounds { NotRaised (S.bounds service.old) (S.bounds service.new) }
 {
-    let Ok(mut page) = Page::reserve(alloc, size) else {
-        return Err(SearchFault::NoMemory);
-    };
-    let pin = match service.pin() {
-        Ok(Some(pin)) => pin,
-        Ok(None) => return Err(SearchFault::Pins),
-        Err(fault) => return Err(SearchFault::from(fault)),
+    let mut page = Page::reserve(alloc, size)?;
+    let Some(pin) = service.pin()? else {
+        return Err(SearchFault::Pins);
     };
     see_pinned(service, pin, given, want, size, &mut page, visitor)
 }
@@ -76,32 +73,24 @@ pub fn see_newer<S: Service, G, V: Visit<G>>(
     visitor: &mut V,
 ) -> Result<Option<Seen>, SearchFault>
     requires some { 1 ≤ size }
-    requires few { size ≤ 256 }
+    requires few { size ≤ MOST_RECORDS }
     requires given { V.may_be given.now }
     ensures looks { LooksUnless known S.Service service.old service.new size want.now
         (λ version records seen. (seen.version ≡ version) × (seen.count ≡ length records)
         × Saw V.has_seen given.now visitor.old visitor.new records) result }
     ensures bounds { NotRaised (S.bounds service.old) (S.bounds service.new) }
 {
-    let Ok(mut page) = Page::reserve(alloc, size) else {
-        return Err(SearchFault::NoMemory);
-    };
-    let pin = match service.pin() {
-        Ok(Some(pin)) => pin,
-        Ok(None) => return Err(SearchFault::Pins),
-        Err(fault) => return Err(SearchFault::from(fault)),
+    let mut page = Page::reserve(alloc, size)?;
+    let Some(pin) = service.pin()? else {
+        return Err(SearchFault::Pins);
     };
     let is_known = pin.version == known;
     if is_known {
-        match service.unpin(pin) {
-            Ok(()) => return Ok(None),
-            Err(fault) => return Err(SearchFault::from(fault)),
-        }
+        service.unpin(pin)?;
+        return Ok(None);
     }
-    match see_pinned(service, pin, given, want, size, &mut page, visitor) {
-        Ok(seen) => Ok(Some(seen)),
-        Err(fault) => Err(fault),
-    }
+    let seen = see_pinned(service, pin, given, want, size, &mut page, visitor)?;
+    Ok(Some(seen))
 }
 
 // From the pin on.
@@ -116,7 +105,7 @@ fn see_pinned<S: Service, G, V: Visit<G>>(
 ) -> Result<Seen, SearchFault>
     requires held { S.holds service.old pin.slot pin.version }
     requires some { 1 ≤ size }
-    requires few { size ≤ 256 }
+    requires few { size ≤ MOST_RECORDS }
     requires room { size ≤ page.old.room }
     requires given { V.may_be given.now }
     ensures looks { (before : S) → IsPinnedFrom S.Service before service.old pin
@@ -127,14 +116,9 @@ fn see_pinned<S: Service, G, V: Visit<G>>(
 {
     let version = pin.version;
     let seen = see_pages(service, &pin, given, want, size, page, visitor);
-    match service.unpin(pin) {
-        Ok(()) => {}
-        Err(fault) => return Err(SearchFault::from(fault)),
-    }
-    match seen {
-        Ok(count) => Ok(Seen { version, count }),
-        Err(fault) => Err(SearchFault::from(fault)),
-    }
+    service.unpin(pin)?;
+    let count = seen?;
+    Ok(Seen { version, count })
 }
 
 // Shows the records of all pages, and answers how many there were. A store has no more pages than commits.
@@ -149,7 +133,7 @@ fn see_pages<S: Service, G, V: Visit<G>>(
 ) -> Result<u32, CallFault>
     requires held { S.holds service.old pin.now.slot pin.now.version }
     requires some { 1 ≤ size }
-    requires few { size ≤ 256 }
+    requires few { size ≤ MOST_RECORDS }
     requires room { size ≤ page.old.room }
     requires given { V.may_be given.now }
     ensures { Walks S.Service service.old service.new pin.now.slot size want.now
@@ -159,14 +143,9 @@ fn see_pages<S: Service, G, V: Visit<G>>(
     let mut from = 0;
     let mut count = 0;
     for _turn in 0..MOST_COMMITS {
-        let last = match fetch(service, pin, want, from, size, page) {
-            Ok(last) => last,
-            Err(fault) => return Err(fault),
-        };
+        let last = fetch(service, pin, want, from, size, page)?;
         let records = page.records();
-        let Ok(()) = see_all(given, records, visitor) else {
-            return Err(CallFault::NoMemory);
-        };
+        see_all(given, records, visitor)?;
         count += records.len() as u32;
         if last {
             return Ok(count);

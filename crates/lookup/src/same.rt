@@ -1,9 +1,9 @@
 //! The identifiers that are the same structure as a given one.
 ghost use Rattle.std.specs.Prelude.{◌≡◌, ◌≤◌, ◌↔◌, [], IfOk, IsTrue, length};
 ghost use Rattle.store_core.specs.Calls.{NotRaised};
+ghost use Rattle.store_core.specs.declared.page.TheConstants.{MOST_RECORDS};
 ghost use Rattle.lookup.specs.Fetches.{Looks};
 ghost use Rattle.lookup.specs.Lists.{IsSameList};
-ghost use Rattle.lookup.specs.Walks.{IsOneKey};
 
 use crate::pages::{Visit, see_head};
 use chem_core::Mol;
@@ -31,22 +31,18 @@ pub fn find_same<S: Service>(
     page_size: u32,
 ) -> Result<SameList, SearchFault>
     requires some { 1 ≤ page_size }
-    requires few { page_size ≤ 256 }
+    requires few { page_size ≤ MOST_RECORDS }
     ensures looks { Looks S.Service service.old service.new page_size given.now.print
         (IsSameList given.now.mol) result }
     ensures bounds { NotRaised (S.bounds service.old) (S.bounds service.new) }
 {
-    let Ok(mut sames) = Sames::of(alloc, given) else {
-        return Err(SearchFault::NoMemory);
-    };
-    match see_head(alloc, service, given, given.print(), page_size, &mut sames) {
-        Ok(seen) => Ok(SameList {
-            version: seen.version,
-            tried: seen.count,
-            hits: sames.hits,
-        }),
-        Err(fault) => Err(fault),
-    }
+    let mut sames = Sames::of(alloc, given)?;
+    let seen = see_head(alloc, service, given, given.print(), page_size, &mut sames)?;
+    Ok(SameList {
+        version: seen.version,
+        tried: seen.count,
+        hits: sames.hits,
+    })
 }
 
 // Those that are the same as a given record, whose key this is.
@@ -89,11 +85,7 @@ impl Sames {
             return false;
         }
         let key = key_of(mol);
-        if is_one(&key, &self.key) {
-            same(given.mol(), mol, &mut self.scratch)
-        } else {
-            false
-        }
+        key == self.key && same(given.mol(), mol, &mut self.scratch)
     }
 }
 
@@ -118,14 +110,4 @@ fn has_counts(key: &Key, mol: &Mol) -> bool
     ensures { IsTrue result ↔ (key.now.atoms ≡ length mol.now.atoms) × (key.now.bonds ≡ length mol.now.bonds) }
 {
     usize::from(key.atoms) == mol.atoms().len() && usize::from(key.bonds) == mol.bonds().len()
-}
-
-// Whether two keys are one.
-fn is_one(left: &Key, right: &Key) -> bool
-    ensures { IsTrue result ↔ IsOneKey left.now right.now }
-{
-    left.atoms == right.atoms
-        && left.bonds == right.bonds
-        && left.sum == right.sum
-        && left.squares == right.squares
 }

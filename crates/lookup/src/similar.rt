@@ -2,6 +2,7 @@
 ghost use Rattle.std.specs.Prelude.{◌≤◌, Bool, List};
 ghost use Rattle.similar_find.specs.declared.best.TheConstants.{MOST_HITS};
 ghost use Rattle.store_core.specs.Calls.{NotRaised};
+ghost use Rattle.store_core.specs.declared.page.TheConstants.{MOST_RECORDS};
 ghost use Rattle.lookup.specs.Asked.{IsEmptyPrint, IsScored};
 ghost use Rattle.lookup.specs.Fetches.{Looks};
 ghost use Rattle.lookup.specs.Lists.{IsSimilarList};
@@ -38,25 +39,22 @@ pub fn find_similar<S: Service>(
     requires part { p ≤ q }
     requires hits { (1 ≤ k) × (k ≤ MOST_HITS) }
     requires some { 1 ≤ page_size }
-    requires few { page_size ≤ 256 }
+    requires few { page_size ≤ MOST_RECORDS }
     ensures looks { (want : List Bool) × IsEmptyPrint want
         × Looks S.Service service.old service.new page_size want
         (IsSimilarList p q k given.now.print) result }
     ensures bounds { NotRaised (S.bounds service.old) (S.bounds service.new) }
 {
     let want = Print::empty();
-    let Ok(best) = Best::reserve(alloc, p, q, k) else {
-        return Err(SearchFault::NoMemory);
+    let mut likes = Likes {
+        best: Best::reserve(alloc, p, q, k)?,
     };
-    let mut likes = Likes { best };
-    match see_head(alloc, service, given, &want, page_size, &mut likes) {
-        Ok(seen) => Ok(SimilarList {
-            version: seen.version,
-            scored: seen.count,
-            best: likes.best,
-        }),
-        Err(fault) => Err(fault),
-    }
+    let seen = see_head(alloc, service, given, &want, page_size, &mut likes)?;
+    Ok(SimilarList {
+        version: seen.version,
+        scored: seen.count,
+        best: likes.best,
+    })
 }
 
 // The best of the records that were seen.
@@ -94,6 +92,7 @@ fn counts(given: &Record, other: &Record) -> (u32, u32)
     ensures part { result.0 ≤ result.1 }
     ensures few { result.1 ≤ 1024 }
 {
+    // Its clause tells that the record is sound.
     let _ = other.id();
     score(given.print(), given.bits(), other.print(), other.bits())
 }

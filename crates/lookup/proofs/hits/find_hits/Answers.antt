@@ -1,47 +1,34 @@
-use Rattle.std.proofs.Common.{[], subst}
-use Rattle.std.specs.List.Sorted.{IsStrictlyIncreasing}
+use Rattle.std.proofs.Common.{[]}
 use Rattle.smarts_parse.specs.Pattern.{pattern_of}
-use Rattle.lookup.specs.Fetches.{Unasked}
 use Rattle.lookup.specs.Lists.{IsHitList}
-use Rattle.lookup.specs.declared.hits.HitList.{HitList}
-use Rattle.lookup.specs.declared.pages.Seen.{Seen}
-use Rattle.par_search.proofs.Held.{held-same}
 use Rattle.par_search.proofs.Joined.{makes-none}
-use Rattle.lookup.proofs.Looked.{looks-as, looks-fault, looks-short}
+use Rattle.lookup.proofs.Listed.{hit-list}
+use Rattle.lookup.proofs.Looked.{looks-listed, looks-passed, looks-unasked}
 use Rattle.lookup.proofs.hits.find_hits.Goals as goal
 
-pub returns-in_default-clause-looks : goal.returns-in_default-clause-looks
-returns-in_default-clause-looks g c = (
+pub returns-in_err-matches-clause-looks : goal.returns-in_err-matches-clause-looks
+returns-in_err-matches-clause-looks g c = (
   c.need-want.result,
   c.need-want.ensures,
-  Unasked (makes-none g.met.S.Service.stays c.args.service.now) (held-same _),
+  looks-unasked (IsHitList (pattern_of c.args.pattern.now)) c.from_residual.result c.from_residual.ensures.1
+      (makes-none g.met.S.Service.stays c.args.service.now),
+)
+
+pub returns-in_err-seen-clause-looks : goal.returns-in_err-seen-clause-looks
+returns-in_err-seen-clause-looks g c = (
+  c.need-want.result,
+  c.need-want.ensures,
+  looks-passed (IsHitList (pattern_of c.args.pattern.now)) c.in_err-seen.field-0.0 c.from_residual-in_err-seen.result
+      c.from_residual-in_err-seen.ensures.1 c.in_err-seen.ensures.looks,
 )
 
 pub returns-clause-looks : goal.returns-clause-looks
-returns-clause-looks g c =
-    let hits = c.see_head.new.visitor.hits in (
-      c.need-want.result,
-      c.need-want.ensures,
-      looks-as c.in-Ok-see_head.ensures.looks (IsHitList (pattern_of c.args.pattern.now))
-          (λ (seen : Seen). (let list : HitList = record { version = seen.version; tried = seen.count; hits = hits } in list))
-          (λ version records seen h. record {
-            version_is = h.0;
-            tried = h.1;
-            hits = h.2 c.in-Ok.matches [] c.in-Ok.ensures;
-            ascending = subst IsStrictlyIncreasing c.deref.ensures.value (c.is_ascending.ensures c.if-not-is_ascending.false);
-          }),
-    )
-
-pub returns-then-not-is_ascending-clause-looks : goal.returns-then-not-is_ascending-clause-looks
-returns-then-not-is_ascending-clause-looks g c = (
+returns-clause-looks g c = (
   c.need-want.result,
   c.need-want.ensures,
-  looks-short (IsHitList (pattern_of c.args.pattern.now)) c.in-Ok-see_head.ensures.looks,
-)
-
-pub returns-in-Err-clause-looks : goal.returns-in-Err-clause-looks
-returns-in-Err-clause-looks g c = (
-  c.need-want.result,
-  c.need-want.ensures,
-  looks-fault (IsHitList (pattern_of c.args.pattern.now)) c.in-Err.ensures.looks,
+  looks-listed c.in_ok-seen.ensures.looks (IsHitList (pattern_of c.args.pattern.now)) c.list_of.result
+      c.list_of.ensures.fault
+      (λ version records h. hit-list (pattern_of c.args.pattern.now) version records c.in_ok-seen.seen
+      c.see_head.new.visitor.hits c.list_of.result h.0 h.1 (h.2 c.in_ok-matches.matches [] c.in_ok-matches.ensures)
+      c.list_of.ensures.list c.list_of.ensures.ascending.0),
 )

@@ -1,59 +1,59 @@
-use Rattle.std.proofs.Common.{[], subst}
-use Rattle.std.specs.List.Sorted.{IsStrictlyIncreasing}
+use Rattle.std.proofs.Common.{[], Err, Ok, refl}
 use Rattle.smarts_parse.specs.Pattern.{pattern_of}
-use Rattle.lookup.specs.Fetches.{Failed, Looked, Unasked}
+use Rattle.par_search.specs.declared.fault.SearchFault.TheVariants.{NoMemory}
+use Rattle.lookup.specs.Fetches.{Looked}
 use Rattle.lookup.specs.Lists.{IsHitList}
-use Rattle.lookup.specs.declared.hits.HitList.{HitList}
-use Rattle.lookup.specs.declared.pages.Seen.{Seen}
-use Rattle.par_search.proofs.Held.{held-same}
 use Rattle.par_search.proofs.Joined.{makes-none}
-use Rattle.lookup.proofs.Looked.{looked-fault, looked-none, looked-some, looks-as, looks-fault, looks-short}
+use Rattle.lookup.proofs.Listed.{hit-list}
+use Rattle.lookup.proofs.Looked.{looked-fault, looked-none, looked-passed, looked-some, looks-listed, looks-short, looks-unasked}
 use Rattle.lookup.proofs.hits.find_newer_hits.Goals as goal
+
+pub returns-in_err-matches-clause-looks : goal.returns-in_err-matches-clause-looks
+returns-in_err-matches-clause-looks g c =
+    let is = IsHitList (pattern_of c.args.pattern.now) in (
+      c.need-want.result,
+      c.need-want.ensures,
+      looked-passed is NoMemory c.from_residual.result c.from_residual.ensures.1
+          (looks-unasked is (Err NoMemory) refl (makes-none g.met.S.Service.stays c.args.service.now)),
+    )
+
+pub returns-in_err-seen-clause-looks : goal.returns-in_err-seen-clause-looks
+returns-in_err-seen-clause-looks g c = (
+  c.need-want.result,
+  c.need-want.ensures,
+  looked-passed (IsHitList (pattern_of c.args.pattern.now)) c.in_err-seen.field-0.0
+      c.from_residual-in_err-seen.result c.from_residual-in_err-seen.ensures.1
+      (looked-fault c.in_err-seen.ensures.looks),
+)
 
 pub returns-in_default-clause-looks : goal.returns-in_default-clause-looks
 returns-in_default-clause-looks g c = (
   c.need-want.result,
   c.need-want.ensures,
-  Failed _ (Unasked (makes-none g.met.S.Service.stays c.args.service.now) (held-same _)),
+  looked-none (IsHitList (pattern_of c.args.pattern.now)) (rw c.in_default.is at c.in_ok-seen.ensures.looks),
 )
+
+pub returns-in_err-list-clause-looks : goal.returns-in_err-list-clause-looks
+returns-in_err-list-clause-looks g c =
+    let is = IsHitList (pattern_of c.args.pattern.now) in (
+      c.need-want.result,
+      c.need-want.ensures,
+      looked-passed is NoMemory c.from_residual-in_err-list.result
+          (rw c.in_err-list.ensures.fault at c.from_residual-in_err-list.ensures.1)
+          (looks-short is (looked-some (rw c.in-Some.is at c.in_ok-seen.ensures.looks))),
+    )
 
 pub returns-clause-looks : goal.returns-clause-looks
 returns-clause-looks g c =
-    let hits = c.see_newer.new.visitor.hits in
-    let looks = looked-some (rw c.in-Ok-Some.field-0-is at c.in-Ok-Some.ensures.looks) in (
+    let pattern = pattern_of c.args.pattern.now in
+    let looks = looked-some (rw c.in-Some.is at c.in_ok-seen.ensures.looks) in (
       c.need-want.result,
       c.need-want.ensures,
-      Looked _ (looks-as looks _
-          (λ (seen : Seen). (let list : HitList = record { version = seen.version; tried = seen.count; hits = hits } in list))
-          (λ version records seen h. (
+      Looked _ (looks-listed looks _ (Ok c.in_ok-list.list) tt
+          (λ version records h. (
             h.0,
-            record {
-              version_is = h.1.0;
-              tried = h.1.1;
-              hits = h.1.2 c.in-Ok.matches [] c.in-Ok.ensures;
-              ascending = subst IsStrictlyIncreasing c.deref.ensures.value (c.is_ascending.ensures c.if-not-is_ascending.false);
-            },
+            hit-list pattern version records c.in-Some.seen c.see_newer.new.visitor.hits (Ok c.in_ok-list.list) h.1.0
+                h.1.1 (h.1.2 c.in_ok-matches.matches [] c.in_ok-matches.ensures) c.in_ok-list.ensures.list
+                c.in_ok-list.ensures.ascending.0,
           ))),
     )
-
-pub returns-then-not-is_ascending-clause-looks : goal.returns-then-not-is_ascending-clause-looks
-returns-then-not-is_ascending-clause-looks g c = (
-  c.need-want.result,
-  c.need-want.ensures,
-  Failed _ (looks-short (IsHitList (pattern_of c.args.pattern.now))
-      (looked-some (rw c.in-Ok-Some.field-0-is at c.in-Ok-Some.ensures.looks))),
-)
-
-pub returns-in-Ok-None-clause-looks : goal.returns-in-Ok-None-clause-looks
-returns-in-Ok-None-clause-looks g c = (
-  c.need-want.result,
-  c.need-want.ensures,
-  looked-none (IsHitList (pattern_of c.args.pattern.now)) (rw c.in-Ok-None.field-0-is at c.in-Ok-None.ensures.looks),
-)
-
-pub returns-in-Err-clause-looks : goal.returns-in-Err-clause-looks
-returns-in-Err-clause-looks g c = (
-  c.need-want.result,
-  c.need-want.ensures,
-  Failed _ (looks-fault (IsHitList (pattern_of c.args.pattern.now)) (looked-fault c.in-Err.ensures.looks)),
-)
