@@ -11,5 +11,4 @@ mod run;
 mod sessions;
 
 pub use laws::{drills_are_true, reopenings_keep_commits};
-pub use line::{LAST_IMAGE, MOST_CALLS, SESSIONS};
 pub use run::drill;

@@ -1,13 +1,12 @@
 //! The lines of a drill.
-ghost use Rattle.std.specs.Prelude.{◌≡◌, ◌≢◌, ◌≤◌, ◌++◌, ◌∷◌, Contains, IfNone, IfSome, List, decimal, option_map, ℕ};
-ghost use Rattle.std.specs.Bool.{OnFalse, OnTrue};
-ghost use Rattle.shell_lang.specs.Command.{HasNoSpace};
+ghost use Rattle.std.specs.Prelude.{◌≡◌, ◌≢◌, ◌≤◌, IfNone, IfSome, decimal, option_map, ℕ};
 ghost use Rattle.disk_pair.specs.declared.choice.Which.{Which};
 ghost use Rattle.drill_run.specs.Lines.{IsLine, word_for};
 ghost use Rattle.drill_run.specs.Views.{line_of};
 
 use chem_text::decimal;
 use disk_pair::Which;
+use shell_lang::{are_same, split_at_space};
 
 /// How many sessions a drill has.
 pub const SESSIONS: u32 = 16;
@@ -78,13 +77,6 @@ fn disk_of(word: &[u8], a: &[u8], b: &[u8]) -> Option<Which>
     None
 }
 
-fn are_same(bytes: &[u8], others: &[u8]) -> bool
-    ensures same { OnTrue result (bytes.now ≡ others.now) }
-    ensures other { OnFalse result (bytes.now ≢ others.now) }
-{
-    bytes == others
-}
-
 // The number that the bytes are printed as, if it is at most `most`.
 fn number(bytes: &[u8], most: u32) -> Option<u32>
     ensures some { IfSome result (λ n. (n ≤ most) × (bytes.now ≡ decimal n)) }
@@ -103,14 +95,4 @@ fn number_from_1(bytes: &[u8], most: u32) -> Option<u32>
         Some(number) if number >= 1 => Some(number),
         _ => None,
     }
-}
-
-// The bytes before the first space, and those after it.
-fn split_at_space(bytes: &[u8]) -> Option<(&[u8], &[u8])>
-    ensures parts { IfSome result (λ parts. bytes.now ≡ parts.0.now ++ 32 ∷ parts.1.now) }
-    ensures first { IfSome result (λ parts. HasNoSpace parts.0.now) }
-    ensures none { IfNone result (HasNoSpace bytes.now) }
-{
-    let place = bytes.iter().position(|byte| *byte == b' ')?;
-    Some((&bytes[..place], &bytes[place + 1..]))
 }
