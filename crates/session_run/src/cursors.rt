@@ -15,6 +15,7 @@ ghost use Rattle.session_run.specs.Searched.{ReturnsAll};
 ghost use Rattle.session_run.specs.Walks.{CursorAnswer, EndsPage, cursor_of, cursors_of};
 
 use crate::listing::{Shown, Walk};
+use crate::matching::Matching;
 use crate::say::{say, say_given};
 use crate::search::{begin, fault_line, give_back, list, pages_together, refuse_pattern};
 use crate::settings::Settings;
@@ -59,9 +60,8 @@ impl Cursors {
     /// Lists the hits of a text's pattern, and the end.
     pub fn search<R: Threads + Sync, S: Service, M: Meter>(
         &self,
-        rt: &R,
+        matching: &Matching<'_, R, M>,
         service: &mut S,
-        meter: &M,
         text: &[u8],
         out: &mut Vec<u8>,
     ) -> Result<(), Stop>
@@ -75,7 +75,7 @@ impl Cursors {
         };
         let most = pages_together(&self.settings);
         match begin(self.alloc, service, &self.settings, pattern, most) {
-            Ok(walk) => list(rt, service, meter, walk, out),
+            Ok(walk) => list(matching, service, walk, out),
             Err(fault) => say_given(fault_line(fault), out),
         }
     }
@@ -114,9 +114,8 @@ impl Cursors {
     /// Writes the next page of the cursor of a name.
     pub fn next<R: Threads + Sync, S: Service, M: Meter>(
         &mut self,
-        rt: &R,
+        matching: &Matching<'_, R, M>,
         service: &mut S,
-        meter: &M,
         name: &[u8],
         out: &mut Vec<u8>,
     ) -> Result<(), Stop>
@@ -128,7 +127,7 @@ impl Cursors {
         ensures settings { self.new.settings ≡ self.old.settings }
     {
         match self.by_name.get_mut(name) {
-            Some(walk) => next_page(walk, rt, service, meter, out),
+            Some(walk) => next_page(walk, matching, service, out),
             None => say(&Reply::Refused(Refusal::Cursor), out),
         }
     }
@@ -223,9 +222,8 @@ impl Cursors {
 // The next page of a cursor, whatever its name; behind the last page its end alone.
 fn next_page<R: Threads + Sync, S: Service, M: Meter>(
     walk: &mut Walk,
-    rt: &R,
+    matching: &Matching<'_, R, M>,
     service: &mut S,
-    meter: &M,
     out: &mut Vec<u8>,
 ) -> Result<(), Stop>
     requires held { S.holds service.old walk.old.search.slot walk.old.search.version }
@@ -234,7 +232,7 @@ fn next_page<R: Threads + Sync, S: Service, M: Meter>(
         out.old.items out.new.items (cursor_of (named (name, walk.new))) result }
     ensures size { walk.new.search.size ≡ walk.old.search.size }
 {
-    let page = walk.page(rt, service, meter, out);
+    let page = walk.page(matching, service, out);
     say_page(walk, page, out)
 }
 

@@ -11,6 +11,7 @@ mod items;
 mod laws;
 mod listing;
 mod lookups;
+mod matching;
 mod records;
 mod request;
 mod respond;

@@ -6,6 +6,7 @@ ghost use Rattle.session_run.specs.Made.{Uses};
 ghost use Rattle.session_run.specs.Searched.{IsNew};
 ghost use Rattle.session_run.specs.Walks.{ArePartlyWritten, Counts, Goes, GoesOn, Listed, Pages, progress_by};
 
+use crate::matching::Matching;
 use crate::stop::Stop;
 use par_search::{Meter, Search, SearchFault};
 use shell_lang::{Reply, reply_text};
@@ -65,9 +66,8 @@ impl Walk {
     /// Fetches a page and writes its hits. The room is taken first.
     pub fn page<R: Threads + Sync, S: Service, M: Meter>(
         &mut self,
-        rt: &R,
+        matching: &Matching<'_, R, M>,
         service: &mut S,
-        meter: &M,
         out: &mut Vec<u8>,
     ) -> Result<Shown, SearchFault>
         requires held { S.holds service.old self.old.search.slot self.old.search.version }
@@ -80,7 +80,7 @@ impl Walk {
             return Err(SearchFault::NoMemory);
         }
         out.reserve(ROOM)?;
-        let shown = list_page(&mut self.search, rt, service, meter, out)?;
+        let shown = list_page(&mut self.search, matching, service, out)?;
         self.tried += u64::from(shown.tried);
         self.hits += u64::from(shown.hits);
         Ok(shown)
@@ -89,9 +89,8 @@ impl Walk {
     /// Lists all pages, batch by batch. It answers whether all hits were written.
     pub fn list_all<R: Threads + Sync, S: Service, M: Meter>(
         &mut self,
-        rt: &R,
+        matching: &Matching<'_, R, M>,
         service: &mut S,
-        meter: &M,
         out: &mut Vec<u8>,
     ) -> Result<bool, Stop>
         requires held { S.holds service.old self.old.search.slot self.old.search.version }
@@ -100,7 +99,7 @@ impl Walk {
             self.old self.new out.old.items out.new.items result }
     {
         for _ in 0..MOST_COMMITS {
-            match self.batch(rt, service, meter, out) {
+            match self.batch(matching, service, out) {
                 Progress::More => {}
                 Progress::Ended => return Ok(true),
                 Progress::Short => return Ok(false),
@@ -113,9 +112,8 @@ impl Walk {
     // Fetches a batch of pages and writes their hits. The room is taken first.
     fn batch<R: Threads + Sync, S: Service, M: Meter>(
         &mut self,
-        rt: &R,
+        matching: &Matching<'_, R, M>,
         service: &mut S,
-        meter: &M,
         out: &mut Vec<u8>,
     ) -> Progress
         requires held { S.holds service.old self.old.search.slot self.old.search.version }
@@ -129,7 +127,7 @@ impl Walk {
         if out.reserve(BATCH_ROOM).is_err() {
             return Progress::Short;
         }
-        let shown = list_batch(&mut self.search, rt, service, meter, out);
+        let shown = list_batch(&mut self.search, matching, service, out);
         self.tried += u64::from(shown.tried);
         self.hits += u64::from(shown.hits);
         shown.progress
@@ -153,16 +151,15 @@ impl Walk {
 // A page, whose hits are written.
 fn list_page<R: Threads + Sync, S: Service, M: Meter>(
     search: &mut Search,
-    rt: &R,
+    matching: &Matching<'_, R, M>,
     service: &mut S,
-    meter: &M,
     out: &mut Vec<u8>,
 ) -> Result<Shown, SearchFault>
     requires held { S.holds service.old search.old.slot search.old.version }
     ensures { Pages (Uses S.Service service.old service.new) (S.worn service.new)
         search.old search.new out.old.items out.new.items result }
 {
-    match search.next(rt, service, meter) {
+    match search.next(matching.rt, service, matching.meter) {
         Ok(page) => {
             let whole = push_hits(page.hits, out).is_ok();
             Ok(Shown {
@@ -179,16 +176,15 @@ fn list_page<R: Threads + Sync, S: Service, M: Meter>(
 // A batch of pages, whose hits are written.
 fn list_batch<R: Threads + Sync, S: Service, M: Meter>(
     search: &mut Search,
-    rt: &R,
+    matching: &Matching<'_, R, M>,
     service: &mut S,
-    meter: &M,
     out: &mut Vec<u8>,
 ) -> ShownBatch
     requires held { S.holds service.old search.old.slot search.old.version }
     ensures { GoesOn (Uses S.Service service.old service.new) (S.worn service.new)
         search.old search.new result.tried result.hits out.old.items out.new.items result.progress }
 {
-    let batch = search.next_pages(rt, service, meter);
+    let batch = search.next_pages(matching.rt, service, matching.meter);
     let whole = push_hits(batch.hits, out).is_ok();
     ShownBatch {
         tried: batch.tried,

@@ -18,6 +18,7 @@ use crate::cursors::Cursors;
 use crate::items::find_data;
 use crate::listing::ROOM;
 use crate::lookups::{Similarity, register_new, same, similar};
+use crate::matching::Matching;
 use crate::records::SdTexts;
 use crate::request::{Molfile, Next};
 use crate::say::say;
@@ -65,11 +66,10 @@ impl Responder {
     }
 
     /// Answers a request, by what was read of it and the text of its line. The reply is then in `out`.
-    pub fn answer<R: Threads + Sync, S: Service, M: Meter>(
+    pub(crate) fn answer<R: Threads + Sync, S: Service, M: Meter>(
         &mut self,
-        rt: &R,
+        matching: &Matching<'_, R, M>,
         service: &mut S,
-        meter: &M,
         next: Next,
         line: &[u8],
     ) -> Result<(), Stop>
@@ -87,9 +87,11 @@ impl Responder {
         match next {
             Next::End => Ok(()),
             Next::Long => say(&Reply::Refused(Refusal::Long), &mut self.out),
-            Next::Line => self.answer_line(rt, service, meter, line),
+            Next::Line => self.answer_line(matching.rt, service, matching.meter, line),
             Next::WithMolfile { read, molfile } => self.answer_molfile(service, read, molfile),
-            Next::WithRecords { count, first } => self.answer_records(rt, service, count, first),
+            Next::WithRecords { count, first } => {
+                self.answer_records(matching.rt, service, count, first)
+            }
         }
     }
 
@@ -111,8 +113,9 @@ impl Responder {
         ensures settings { self.new.cursors.settings ≡ self.old.cursors.settings }
     {
         self.out.clear();
+        let matching = Matching { rt, meter };
         match read_command(line) {
-            Ok(command) => self.execute(rt, service, meter, command),
+            Ok(command) => self.execute(&matching, service, command),
             Err(refusal) => say(&Reply::Refused(Refusal::Line(refusal)), &mut self.out),
         }
     }
@@ -131,9 +134,8 @@ impl Responder {
     // Executes a command that takes no lines.
     fn execute<R: Threads + Sync, S: Service, M: Meter>(
         &mut self,
-        rt: &R,
+        matching: &Matching<'_, R, M>,
         service: &mut S,
-        meter: &M,
         command: Command<'_>,
     ) -> Result<(), Stop>
         requires ready { IsReady S.Service service.old self.old.cursors }
@@ -187,7 +189,7 @@ impl Responder {
             Command::Data { id, name } => find_data(service, id, name, &mut self.out),
             Command::Search { pattern } => {
                 self.cursors
-                    .search(rt, service, meter, pattern, &mut self.out)
+                    .search(matching, service, pattern, &mut self.out)
             }
             Command::Same { text } => same(
                 &mut self.recorder,
@@ -219,7 +221,7 @@ impl Responder {
             Command::Start { name, pattern } => {
                 self.cursors.open(service, name, pattern, &mut self.out)
             }
-            Command::Next { name } => self.cursors.next(rt, service, meter, name, &mut self.out),
+            Command::Next { name } => self.cursors.next(matching, service, name, &mut self.out),
             Command::Close { name } => self.cursors.close(service, name, &mut self.out),
             Command::Watch { name, text } => watch(
                 &self.cursors,

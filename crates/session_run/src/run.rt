@@ -9,11 +9,12 @@ ghost use Rattle.session_run.specs.Opened.{opened};
 ghost use Rattle.session_run.specs.Requests.{IsPartOfRequest, Request};
 ghost use Rattle.session_run.specs.Responds.{IsFit, IsReady, KeepsPins};
 ghost use Rattle.session_run.specs.Served.{IsInputFault, IsServedBy, TakesAll, TakesAtMost, TakesExactly};
-ghost use Rattle.session_run.specs.Serving.{IsFresh, Serves};
+ghost use Rattle.session_run.specs.Serving.{EndsAs, IsFresh, Serves};
 ghost use Rattle.session_run.specs.Standings.{standing_of};
 ghost use Rattle.session_run.specs.Turn.{IsNext, Puts, ReadsOn, Replies, TakesNone, TakesPart, TakesRequest, Turns};
 ghost use Rattle.session_run.specs.Walks.{cursors_of};
 
+use crate::matching::Matching;
 use crate::request::{Next, next_request};
 use crate::respond::Responder;
 use crate::settings::{EndStatus, Settings};
@@ -58,36 +59,8 @@ pub fn session<R: Threads + Sync, S: Service, I: Source, O: Sink, M: Meter>(
     let Ok(mut responder) = Responder::new(alloc, *settings) else {
         return EndStatus::NoMemory;
     };
-    serve_to_end(rt, service, source, sink, meter, &mut lines, &mut responder)
-}
-
-// Answers requests until the session ends, and gives the pins of the open cursors back, unless the service is worn.
-fn serve_to_end<R: Threads + Sync, S: Service, I: Source, O: Sink, M: Meter>(
-    rt: &R,
-    service: &mut S,
-    source: &mut I,
-    sink: &mut O,
-    meter: &M,
-    lines: &mut Lines,
-    responder: &mut Responder,
-) -> EndStatus
-    requires fit { IsFit responder.old.cursors }
-    requires none { opened responder.old.cursors ≡ [] }
-    requires unwatched { responder.old.watches.watches ≡ [] }
-    requires fresh { IsFresh lines.old }
-    ensures serves { (calls : Calls) × Uses S.Service service.old service.new calls
-        × IsServedBy result responder.old.cursors.settings.page (I.left source.old) (I.left source.new)
-        (O.written sink.old) (O.written sink.new) calls }
-    ensures pins { result ≢ EndStatus.Worn → SameHeld (S.holds service.old) (S.holds service.new) }
-    ensures worn { result ≡ EndStatus.Worn → S.worn service.new }
-    ensures source_fault { result ≡ EndStatus.SourceFault → Rose (I.faults source.old) (I.faults source.new) }
-    ensures sink_fault { result ≡ EndStatus.SinkFault → Rose (O.faults sink.old) (O.faults sink.new) }
-    ensures done { result ≡ EndStatus.Done → TakesAll (I.left source.old) (I.left source.new) }
-    ensures within { TakesAtMost (I.left source.old) (I.left source.new) lines.old.limit }
-    ensures too_long { result ≡ EndStatus.InputTooLong
-        → TakesExactly (I.left source.old) (I.left source.new) lines.old.limit }
-{
-    let end = serve(rt, service, source, sink, meter, lines, responder);
+    let matching = Matching { rt, meter };
+    let end = serve(&matching, service, source, sink, &mut lines, &mut responder);
     match end {
         EndStatus::Worn => EndStatus::Worn,
         _ => match responder.cursors.close_all(service) {
@@ -97,13 +70,12 @@ fn serve_to_end<R: Threads + Sync, S: Service, I: Source, O: Sink, M: Meter>(
     }
 }
 
-// Answers requests until the session ends.
+// Answers requests until the session ends. The cursors that are still open keep their pins.
 fn serve<R: Threads + Sync, S: Service, I: Source, O: Sink, M: Meter>(
-    rt: &R,
+    matching: &Matching<'_, R, M>,
     service: &mut S,
     source: &mut I,
     sink: &mut O,
-    meter: &M,
     lines: &mut Lines,
     responder: &mut Responder,
 ) -> EndStatus
@@ -116,16 +88,11 @@ fn serve<R: Threads + Sync, S: Service, I: Source, O: Sink, M: Meter>(
         (O.written sink.old) (O.written sink.new) calls (standing_of responder.new) }
     ensures pins { result ≢ EndStatus.Worn
         → KeepsPins (S.holds service.old) [] (S.holds service.new) (cursors_of (opened responder.new.cursors)) }
-    ensures worn { result ≡ EndStatus.Worn → S.worn service.new }
-    ensures source_fault { result ≡ EndStatus.SourceFault → Rose (I.faults source.old) (I.faults source.new) }
-    ensures sink_fault { result ≡ EndStatus.SinkFault → Rose (O.faults sink.old) (O.faults sink.new) }
-    ensures done { result ≡ EndStatus.Done → TakesAll (I.left source.old) (I.left source.new) }
-    ensures within { TakesAtMost (I.left source.old) (I.left source.new) lines.old.limit }
-    ensures too_long { result ≡ EndStatus.InputTooLong
-        → TakesExactly (I.left source.old) (I.left source.new) lines.old.limit }
+    ensures ends { EndsAs result lines.old.limit (S.worn service.new) (I.left source.old) (I.left source.new)
+        (I.faults source.old) (I.faults source.new) (O.faults sink.old) (O.faults sink.new) }
 {
     loop {
-        if let Some(end) = turn(rt, service, source, sink, meter, lines, responder) {
+        if let Some(end) = turn(matching, service, source, sink, lines, responder) {
             return end;
         }
     }
@@ -133,11 +100,10 @@ fn serve<R: Threads + Sync, S: Service, I: Source, O: Sink, M: Meter>(
 
 // Reads the next request and puts its reply. It answers how the session ends, if it does.
 fn turn<R: Threads + Sync, S: Service, I: Source, O: Sink, M: Meter>(
-    rt: &R,
+    matching: &Matching<'_, R, M>,
     service: &mut S,
     source: &mut I,
     sink: &mut O,
-    meter: &M,
     lines: &mut Lines,
     responder: &mut Responder,
 ) -> Option<EndStatus>
@@ -172,16 +138,15 @@ fn turn<R: Threads + Sync, S: Service, I: Source, O: Sink, M: Meter>(
     };
     match next {
         Next::End => Some(EndStatus::Done),
-        _ => answer_and_put(rt, service, sink, meter, next, lines.text(), responder),
+        _ => answer_and_put(matching, service, sink, next, lines.text(), responder),
     }
 }
 
 // Answers a request that was read, and puts its reply. It answers how the session ends, if it does.
 fn answer_and_put<R: Threads + Sync, S: Service, O: Sink, M: Meter>(
-    rt: &R,
+    matching: &Matching<'_, R, M>,
     service: &mut S,
     sink: &mut O,
-    meter: &M,
     next: Next,
     line: &[u8],
     responder: &mut Responder,
@@ -199,7 +164,7 @@ fn answer_and_put<R: Threads + Sync, S: Service, O: Sink, M: Meter>(
     ensures sink_fault { result ≡ Some EndStatus.SinkFault → Rose (O.faults sink.old) (O.faults sink.new) }
     ensures sink_count { O.faults sink.old ≤ O.faults sink.new }
 {
-    match responder.answer(rt, service, meter, next, line) {
+    match responder.answer(matching, service, next, line) {
         Ok(()) => put(&responder.out, sink),
         Err(Stop::NoMemory) => Some(EndStatus::NoMemory),
         Err(Stop::Worn) => Some(EndStatus::Worn),

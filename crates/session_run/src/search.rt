@@ -9,6 +9,7 @@ ghost use Rattle.session_run.specs.Made.{AnsweredBy, Uses};
 ghost use Rattle.session_run.specs.Searched.{Begins, IsFaultLine, IsLastLine, IsNew, IsPatternRefusal, PinAnswer, Returns};
 
 use crate::listing::Walk;
+use crate::matching::Matching;
 use crate::say::say;
 use crate::settings::Settings;
 use crate::stop::Stop;
@@ -86,9 +87,8 @@ pub fn give_back<S: Service>(search: Search, service: &mut S) -> Result<(), Stop
 
 /// Lists a search to its end, and gives its pin back.
 pub fn list<R: Threads + Sync, S: Service, M: Meter>(
-    rt: &R,
+    matching: &Matching<'_, R, M>,
     service: &mut S,
-    meter: &M,
     walk: Walk,
     out: &mut Vec<u8>,
 ) -> Result<(), Stop>
@@ -98,7 +98,7 @@ pub fn list<R: Threads + Sync, S: Service, M: Meter>(
         out.old.items out.new.items tt result }
 {
     let mut walk = walk;
-    let whole = match walk.list_all(rt, service, meter, out) {
+    let whole = match walk.list_all(matching, service, out) {
         Ok(whole) => whole,
         Err(stop) => return Err(stop),
     };

@@ -107,25 +107,15 @@ returns-in-Some-clause-pins g c = λ n.
     i.pins (turn_keeps g.S.Service middle last _ _ _ here there _ _ (Some c.in-Some.end) c.in-Some.ensures.turns
     (λ e. n (some-end c.in-Some.end _ e)) i.pins.are_held)
 
-pub returns-in-Some-clause-worn : goal.returns-in-Some-clause-worn
-returns-in-Some-clause-worn g c = λ e. let t = rw e at c.in-Some.ensures.turns in t.0.worn.worn
-
-pub returns-in-Some-clause-source_fault : goal.returns-in-Some-clause-source_fault
-returns-in-Some-clause-source_fault g c = λ e.
-    Rose-since _ _ _ c.loop-end.invariant.source_count (c.in-Some.ensures.source_fault (ap Some e))
-
-pub returns-in-Some-clause-sink_fault : goal.returns-in-Some-clause-sink_fault
-returns-in-Some-clause-sink_fault g c = λ e.
-    Rose-since _ _ _ c.loop-end.invariant.sink_count (c.in-Some.ensures.sink_fault (ap Some e))
-
-pub returns-in-Some-clause-too_long : goal.returns-in-Some-clause-too_long
-returns-in-Some-clause-too_long g c = λ e.
-    takes_all c.loop-end.invariant.under_way.2 c.in-Some.ensures.reads (c.in-Some.ensures.too_long (ap Some e))
-
-pub returns-in-Some-clause-done : goal.returns-in-Some-clause-done
-returns-in-Some-clause-done g c = λ e.
-    takes_whole c.loop-end.invariant.under_way.2 c.in-Some.ensures.reads (c.in-Some.ensures.ended (ap Some e))
-
-pub returns-in-Some-clause-within : goal.returns-in-Some-clause-within
-returns-in-Some-clause-within g c =
-    takes_within c.loop-end.invariant.under_way.2 c.in-Some.ensures.reads
+pub returns-in-Some-clause-ends : goal.returns-in-Some-clause-ends
+returns-in-Some-clause-ends g c =
+    let i = c.loop-end.invariant in
+    let then = c.in-Some.ensures in
+    record {
+      worn = λ e. let t = rw e at then.turns in t.0.worn.worn;
+      source_fault = λ e. Rose-since _ _ _ i.source_count (then.source_fault (ap Some e));
+      sink_fault = λ e. Rose-since _ _ _ i.sink_count (then.sink_fault (ap Some e));
+      done = λ e. takes_whole i.under_way.2 then.reads (then.ended (ap Some e));
+      within = takes_within i.under_way.2 then.reads;
+      too_long = λ e. takes_all i.under_way.2 then.reads (then.too_long (ap Some e));
+    }
