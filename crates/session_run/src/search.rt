@@ -20,8 +20,9 @@ use std::alloc::Global;
 use std::thread::Threads;
 use store_core::Service;
 
-/// Begins a search for a pattern, at the head, by single pages and by batches of at most this many. Beside a thread that
-/// fetches the pages of a batch, all workers but one match.
+/// Begins a search for a pattern, at the head, by single pages and by batches of at most this many. Without batches, as
+/// for a cursor, all workers share each page. A batch of one page is matched by one worker, and a larger one by all but
+/// one, beside a thread that fetches.
 pub fn begin<S: Service>(
     alloc: Global,
     service: &mut S,
@@ -39,11 +40,7 @@ pub fn begin<S: Service>(
     ensures begun { IfOk result (λ walk. HasBegun pattern settings.now.page walk.search) }
     ensures new { IfOk result (λ walk. IsNew walk) }
 {
-    let workers = if most > 1 {
-        settings.workers.saturating_sub(1).max(1)
-    } else {
-        settings.workers
-    };
+    let workers = workers_for(settings, most);
     match Search::start_batched(alloc, service, pattern, workers, settings.page, most) {
         Ok(search) => Ok(Walk {
             search,
@@ -54,13 +51,26 @@ pub fn begin<S: Service>(
     }
 }
 
-/// How many pages are searched together: as many as may be where workers share them. One worker searches each page right
-/// behind its fetch, while its records are near.
+// How many workers match in a search by batches of at most this many pages.
+fn workers_for(settings: &Settings, most: u32) -> u32
+    requires { 1 ≤ settings.now.workers }
+    ensures some { 1 ≤ result }
+    ensures few { result ≤ settings.now.workers }
+{
+    match most {
+        0 => settings.workers,
+        1 => 1,
+        _ => (settings.workers - 1).max(1),
+    }
+}
+
+/// How many pages are searched together: as many as may be with three workers or more, of which one fetches. One worker
+/// searches each page right behind its fetch, while its records are near, and two work as one does.
 pub fn pages_together(settings: &Settings) -> u32
     ensures some { 1 ≤ result }
     ensures few { result ≤ MOST_PAGES }
 {
-    if settings.workers > 1 { MOST_PAGES } else { 1 }
+    if settings.workers > 2 { MOST_PAGES } else { 1 }
 }
 
 /// The line where no search began.
