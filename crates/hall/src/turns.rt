@@ -30,9 +30,8 @@ impl<D: Disk + Drop> Hall<D> {
         ensures answered { IsAnswered pass.old pass.new (commit_calls change result) (is_worn_out result) }
     {
         laws::<D>();
-        let mut turn = match pass.pass.turn(rt, &self.gate) {
-            Ok(turn) => turn,
-            Err(_) => return Err(CommitFault::Worn),
+        let Ok(mut turn) = pass.pass.turn(rt, &self.gate) else {
+            return Err(CommitFault::Worn);
         };
         let answer = turn.value().commit(change);
         turn.end();
@@ -50,9 +49,8 @@ impl<D: Disk + Drop> Hall<D> {
         ensures memory { NeedsNone result }
     {
         laws::<D>();
-        let mut turn = match pass.pass.turn(rt, &self.gate) {
-            Ok(turn) => turn,
-            Err(_) => return Err(CallFault::Worn),
+        let Ok(mut turn) = pass.pass.turn(rt, &self.gate) else {
+            return Err(CallFault::Worn);
         };
         let answer = turn.value().pin();
         turn.end();
@@ -86,9 +84,8 @@ impl<D: Disk + Drop> Hall<D> {
         laws::<D>();
         // The records that the page has are given back before the turn, and not in it.
         page.clear();
-        let mut turn = match pass.pass.turn(rt, &self.gate) {
-            Ok(turn) => turn,
-            Err(_) => return Err(CallFault::Worn),
+        let Ok(mut turn) = pass.pass.turn(rt, &self.gate) else {
+            return Err(CallFault::Worn);
         };
         let answer = turn.value().fetch(pin, want, from, limit, page, steps);
         turn.end();
@@ -108,9 +105,8 @@ impl<D: Disk + Drop> Hall<D> {
         ensures memory { NeedsNone result }
     {
         laws::<D>();
-        let mut turn = match pass.pass.turn(rt, &self.gate) {
-            Ok(turn) => turn,
-            Err(_) => return Err(CallFault::Worn),
+        let Ok(mut turn) = pass.pass.turn(rt, &self.gate) else {
+            return Err(CallFault::Worn);
         };
         let answer = turn.value().unpin(pin);
         turn.end();
@@ -124,9 +120,8 @@ impl<D: Disk + Drop> Hall<D> {
         ensures memory { NeedsNone result }
     {
         laws::<D>();
-        let mut turn = match pass.pass.turn(rt, &self.gate) {
-            Ok(turn) => turn,
-            Err(_) => return Err(CallFault::Worn),
+        let Ok(mut turn) = pass.pass.turn(rt, &self.gate) else {
+            return Err(CallFault::Worn);
         };
         let answer = turn.value().prune();
         turn.end();
@@ -145,9 +140,8 @@ impl<D: Disk + Drop> Hall<D> {
         ensures entry { IfOk result (λ l. IsLookOf id l) }
     {
         laws::<D>();
-        let mut turn = match pass.pass.turn(rt, &self.gate) {
-            Ok(turn) => turn,
-            Err(_) => return Err(CallFault::Worn),
+        let Ok(mut turn) = pass.pass.turn(rt, &self.gate) else {
+            return Err(CallFault::Worn);
         };
         let answer = turn.value().look(id);
         turn.end();
@@ -161,9 +155,8 @@ impl<D: Disk + Drop> Hall<D> {
         ensures memory { NeedsNone result }
     {
         laws::<D>();
-        let mut turn = match pass.pass.turn(rt, &self.gate) {
-            Ok(turn) => turn,
-            Err(_) => return Err(CallFault::Worn),
+        let Ok(mut turn) = pass.pass.turn(rt, &self.gate) else {
+            return Err(CallFault::Worn);
         };
         let answer = turn.value().stats();
         turn.end();
@@ -181,9 +174,8 @@ impl<D: Disk + Drop> Hall<D> {
             (compact_calls result) (is_compact_worn result) }
     {
         laws::<D>();
-        let mut turn = match pass.pass.turn(rt, &self.gate) {
-            Ok(turn) => turn,
-            Err(_) => return Err(CompactFault::Worn),
+        let Ok(mut turn) = pass.pass.turn(rt, &self.gate) else {
+            return Err(CompactFault::Worn);
         };
         let answer = turn.value().compact();
         turn.end();

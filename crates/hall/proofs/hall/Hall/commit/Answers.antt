@@ -7,9 +7,9 @@ use Rattle.hall.proofs.Calls.{commit-call}
 use Rattle.hall.proofs.Turning.{ended-as, gave-up, names-anyones}
 use Rattle.hall.proofs.hall.Hall.commit.Goals as goal
 
-pub returns-in-Err-clause-answered : goal.returns-in-Err-clause-answered
-returns-in-Err-clause-answered g c =
-    let facts = from-err _ _ _ c.in-Err.is c.turn.follows.holds-at-none in
+pub returns-in_default-clause-answered : goal.returns-in_default-clause-answered
+returns-in_default-clause-answered g c =
+    let facts = from-err _ _ _ c.in_default.is c.turn.follows.holds-at-none in
     gave-up _ c.laws.ensures.stay c.args.self.now c.args.pass.now _ c.requires.of facts.0 facts.1
 
 pub end-requires-clause-names : goal.end-requires-clause-names
