@@ -1,4 +1,5 @@
--- What a pass knows after each step. For callers: `first_pass`, `giving`, `given_to`, `having_seen`.
+-- What a pass knows after each step. For callers: `Sat`, `sat`, `first_pass`, `giving`, `given_to`, `having_seen`; the
+-- rest is for the steps on the table.
 use Rattle.std.specs.Prelude.{◌≡◌, ℕ, ◌+◌, ◌<◌, ◌≤◌, ◌==◌, true, List, [], ◌∷◌, ◌++◌, length, Option, Some, MatchBool}
 use Rattle.atomic_table.specs.Table.{Me, Step}
 use Rattle.turn_gate.specs.declared.known.Known.{Known}

@@ -1,6 +1,6 @@
 //! How a caller waits for its turn. Whoever has the turn may keep it for milliseconds, so a caller tries a few times,
 //! and then sleeps until the turn ends or for a millisecond at most.
-ghost use Rattle.std.specs.Prelude.{◌≡◌, ◌≤◌, [], MatchBool};
+ghost use Rattle.std.specs.Prelude.{◌≡◌, ◌+◌, ◌*◌, [], min, MatchBool};
 ghost use Rattle.std.specs.Duration.{as_nanos};
 ghost use Rattle.turn_gate.specs.Passes.{IsOf};
 ghost use Rattle.turn_gate.specs.Steps.{sat, at_stage};
@@ -78,7 +78,7 @@ impl<V: Stands> Gate<V> {
 
 // How long a sleep may be after so many: 32 microseconds longer each time, up to about a millisecond.
 fn nap(sleeps: u32) -> Duration
-    ensures { (32000 ≤ as_nanos result) × (as_nanos result ≤ 1024000) }
+    ensures { as_nanos result ≡ 32000 * (1 + min sleeps 31) }
 {
-    Duration::from_micros(32 + 32 * sleeps.min(31) as u64)
+    Duration::from_micros(32 + 32 * u64::from(sleeps.min(31)))
 }
