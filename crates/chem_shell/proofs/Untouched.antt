@@ -97,6 +97,7 @@ creates_nothing model disks disks' status is same = record {
   stays = λ e. stays_same model disks.a disks'.a (ap (λ (d : Disks _). d.a) same);
   stays_b = stays_same model disks.b disks'.b (ap (λ (d : Disks _). d.b) same);
   kept = λ e. absurd (omega (arith, is, e));
+  kept_b = λ e. absurd (omega (arith, is, e));
 }
 
 -- the summary at a plan that asks for the same

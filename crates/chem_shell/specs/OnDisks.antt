@@ -31,7 +31,8 @@ use Rattle.serve_ends.specs.declared.status.TheConstants.{DONE, NO_MEMORY, WORN}
 use Rattle.chem_shell.specs.declared.status.TheConstants.{DISK_FAULT, NOT_EMPTY}
 
 -- `init`: where it is done, both disks were empty, and `a` has the empty store. Where a disk has bytes both are as
--- before, and so they are where memory ran out; `b` is as before in any case
+-- before, and so they are where memory ran out; `b` is as before in any case. A disk fault leaves `a` as it was where
+-- either disk has bytes
 pub record Creates {D : Type 0} (model : DiskModel D) (old new : Disks D) (status : ℕ) : Type 0 where
   pub status_is : IsCreationStatus status
   pub done : status ≡ DONE → IfTold (model.content old.a) (λ l. (l ≡ []) × IsEmptyJournal model new.a)
@@ -40,6 +41,7 @@ pub record Creates {D : Type 0} (model : DiskModel D) (old new : Disks D) (statu
   pub stays : (status ≡ NOT_EMPTY) ⊎ (status ≡ NO_MEMORY) → Stays model old.a new.a
   pub stays_b : Stays model old.b new.b
   pub kept : status ≡ DISK_FAULT → IfTold (model.content old.a) (λ l. 1 ≤ length l → Stays model old.a new.a)
+  pub kept_b : status ≡ DISK_FAULT → IfTold (model.content old.b) (λ l. 1 ≤ length l → Stays model old.a new.a)
 
 -- The calls are all of a run without a crash that begins with the history of the disks. The steps lie one after the
 -- other on the disks' clocks, from the times at which the store was loaded to now. A crash while it was loaded left

@@ -1,4 +1,4 @@
-//! `drill`: sessions on a store in memory whose disk is stopped, failed and reopened.
+//! `drill`: sessions on a store in memory whose disks are stopped, failed and reopened.
 ghost use Rattle.std.specs.Prelude.{◌≡◌, ◌≢◌};
 ghost use Rattle.drill_run.specs.Drilled.{IsDrilledBy};
 ghost use Rattle.io_edge.specs.Faults.{Rose};

@@ -15,7 +15,7 @@ pub enum Verb {
     Serve,
     /// A generated script on a store in memory, and the summary of its transcript.
     Bulk,
-    /// One drill: sessions on a store in memory whose disk is stopped, failed and reopened.
+    /// One drill: sessions on a store in memory whose disks are stopped, failed and reopened.
     Drill,
 }
 

@@ -20,7 +20,8 @@ pub const LAST_SEED: u32 = 2_147_483_646;
 /// The most structures that a generated script registers.
 pub const MOST_STRUCTURES: u32 = 100_000;
 
-/// Reads the words: by `clap`, and then by the table of commands.
+/// Reads the words: by `clap`, and then by the table of commands. `Usage` where they ask for nothing; `NoMemory` where
+/// memory ran out first.
 pub fn plan<'w>(alloc: Global, words: &'w [&'w str]) -> Result<Plan<'w>, PlanFault>
     ensures ok { IfOk result (AsksFor (texts words.now)) }
     ensures scripts { IfOk result (λ plan. plan.command ≡ Verb.Serve → plan.ends ≡ length plan.scripts.items) }
