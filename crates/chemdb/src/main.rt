@@ -179,7 +179,7 @@ fn words<R: Env + AllocGlobal>(rt: &R) -> io::Result<Vec<String>> {
     Ok(words)
 }
 
-/// So many ends over standard input and output.
+/// `count` ends over standard input and output.
 fn ends<'r, R: Input + Print>(
     rt: &'r R,
     alloc: Global,
