@@ -37,7 +37,7 @@ fn words_that_ask(rt: HostRuntime) -> Result<(), Fail> {
 #[test]
 fn words_that_ask_for_nothing(rt: HostRuntime) -> Result<(), Fail> {
     let alloc = rt.alloc();
-    let rows: [(&[&str], &str); 30] = [
+    let rows: [(&[&str], &str); 33] = [
         (&[], "a command is missing"),
         (&["--page", "3"], "a command is missing"),
         (&[""], "there is no command \"\""),
