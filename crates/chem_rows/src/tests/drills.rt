@@ -1,6 +1,7 @@
 //! Drills: sessions on a store in memory whose disks are stopped, failed and reopened.
 
-use super::check;
+use super::{PLAIN, answers, check};
+use chem_shell::word_fault;
 use std::test::Fail;
 
 #[test]
@@ -92,4 +93,30 @@ fn lines_of_no_drill(rt: HostRuntime) -> Result<(), Fail> {
         < 1 refused data\n\
         ",
     )
+}
+
+#[test]
+fn words_of_a_drill(rt: HostRuntime) -> Result<(), Fail> {
+    let alloc = rt.alloc();
+    let rows: [(&[&str], &str); 3] = [
+        (&["drill", "x"], "drill takes no word \"x\""),
+        (
+            &["drill", "--commits", "0"],
+            "--commits is a decimal from 1 to 16777215, not \"0\"",
+        ),
+        (
+            &["drill", "--page", "257"],
+            "--page is a decimal from 1 to 256, not \"257\"",
+        ),
+    ];
+    for (words, reason) in rows {
+        let fault = word_fault(alloc, words)?;
+        let text = match &fault {
+            Some(text) => text.as_str(),
+            None => "",
+        };
+        assert_eq!(rt; text, reason, "at {words:?}");
+        answers(&rt, alloc, words, b"1 stats\n", PLAIN, 2, b"")?;
+    }
+    Ok(())
 }

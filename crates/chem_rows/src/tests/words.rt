@@ -37,7 +37,7 @@ fn words_that_ask(rt: HostRuntime) -> Result<(), Fail> {
 #[test]
 fn words_that_ask_for_nothing(rt: HostRuntime) -> Result<(), Fail> {
     let alloc = rt.alloc();
-    let rows: [(&[&str], &str); 33] = [
+    let rows: [(&[&str], &str); 30] = [
         (&[], "a command is missing"),
         (&["--page", "3"], "a command is missing"),
         (&[""], "there is no command \"\""),
@@ -109,15 +109,6 @@ fn words_that_ask_for_nothing(rt: HostRuntime) -> Result<(), Fail> {
         (
             &["bulk", "1", "2", "--commits", "3"],
             "bulk takes no --commits",
-        ),
-        (&["drill", "x"], "drill takes no word \"x\""),
-        (
-            &["drill", "--commits", "0"],
-            "--commits is a decimal from 1 to 16777215, not \"0\"",
-        ),
-        (
-            &["drill", "--page", "257"],
-            "--page is a decimal from 1 to 256, not \"257\"",
         ),
     ];
     for (words, reason) in rows {
