@@ -4,8 +4,6 @@
 ghost use Rattle.std.specs.Prelude.{◌≡◌, IfOk, length};
 
 mod files;
-#[cfg(test)]
-mod tests;
 
 use crate::files::script_ends;
 use chem_shell::{End, Outcome, Plan, PlanFault, Verb, chemdb, plan, status, word_fault};

@@ -9,8 +9,6 @@ mod end;
 mod serve;
 mod slot;
 mod status;
-#[cfg(test)]
-mod tests;
 
 pub use end::End;
 pub use serve::{MOST_ENDS, serve_ends};

@@ -7,8 +7,6 @@ mod gate;
 mod known;
 mod rule;
 mod stands;
-#[cfg(test)]
-mod tests;
 mod turn;
 mod wait;
 

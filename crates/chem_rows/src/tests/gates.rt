@@ -3,13 +3,11 @@ ghost use Rattle.std.specs.Prelude.{◌≡◌, ◌++◌, ◌∷◌, [], List, On
 ghost use Rattle.turn_gate.specs.Numbers.{has, own};
 ghost use Rattle.turn_gate.specs.Passes.{IsOf, known};
 
-use crate::gate::{Gate, Pass};
-use crate::stands::Stands;
-use crate::turn::Worn;
 use std::sync::Wait;
 use std::thread;
 use std::thread::{Threads, join_mut};
 use std::time::{Clock, Duration};
+use turn_gate::{Gate, Pass, Stands, Worn};
 
 /// How many marks were made under this gate.
 #[derive(Drop)]

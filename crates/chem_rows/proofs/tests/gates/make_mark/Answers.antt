@@ -1,7 +1,7 @@
 -- A mark more is an event of the pass, of which the tally tells.
 use Rattle.std.proofs.Common.{ap, ◌∙◌, ◌+◌, ◌∷◌, [], length-append, length, arith, refl}
 use Rattle.turn_gate.proofs.Lists.{has_head}
-use Rattle.turn_gate.proofs.tests.make_mark.Goals as goal
+use Rattle.chem_rows.proofs.tests.gates.make_mark.Goals as goal
 
 pub end-requires-clause-names : goal.end-requires-clause-names
 end-requires-clause-names g c =

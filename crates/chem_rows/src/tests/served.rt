@@ -3,10 +3,10 @@
 //! Ends and searches wait for each other by how much has happened so far: each reply that was put and each search that
 //! began to match counts one. A wait gives up after 10,000,000 turns, which fails the test.
 
-use crate::{DONE, End, MOST_ENDS, serve_ends};
 use hall::Hall;
 use io_edge::{MemSink, MemSource, PutFault, Sink, Source, Take};
 use par_search::Meter;
+use serve_ends::{DONE, End, MOST_ENDS, serve_ends};
 use session_run::Settings;
 use std::alloc::{AllocError, Global};
 use std::sync::atomic::{AtomicU32, Ordering};

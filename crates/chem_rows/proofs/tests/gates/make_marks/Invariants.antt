@@ -1,7 +1,7 @@
 -- The pass stays of its gate, with its numbers.
 use Rattle.std.proofs.Common.{◌≡◌}
 use Rattle.turn_gate.specs.Passes.{IsOf, known}
-use Rattle.turn_gate.proofs.tests.make_marks.Given as goal
+use Rattle.chem_rows.proofs.tests.gates.make_marks.Given as goal
 
 abbrev pub invariant-loop-i : goal.invariant-loop-i
 invariant-loop-i g l =
