@@ -15,8 +15,8 @@ returns-in-Err-Sure-default-clause-gives g c second k finish next h =
 pub returns-in-Err-Sure-default-clause-moments : goal.returns-in-Err-Sure-default-clause-moments
 returns-in-Err-Sure-default-clause-moments g c second k finish h l told y m =
     let said = c.in-Err-Sure-default.ensures in
-    was_idle g.D.Disk.model second k finish c.args.disk c.in-Err-Sure-default.disk c.args.doubtful h said.untold l told y
-    (λ j told_old. said.moments j told_old y m)
+    was_idle g.D.Disk.model second k finish c.args.disk c.in-Err-Sure-default.disk c.args.doubtful h said.untold l
+    told y (λ j told_old. said.moments j told_old y m)
 
 pub returns-in-Err-NoMemory-default-clause-gives : goal.returns-in-Err-NoMemory-default-clause-gives
 returns-in-Err-NoMemory-default-clause-gives g c second k finish next h =
