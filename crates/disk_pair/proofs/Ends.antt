@@ -1,10 +1,8 @@
 -- A finish of a running copy, by its answer.
-use Rattle.std.proofs.Common.{◌≡◌, inl, inr, ◌<◌, Bool, false, true, ℕ, List, Some, None, refl, sym, ◌∙◌, ap, subst, arith}
-use Rattle.disk_edge.specs.Disk.{DiskModel, IfTold}
-use Rattle.journal_core.specs.Fronts.{IsFront, IsShut, front_of}
-use Rattle.journal_core.specs.Journal.{Rests}
+use Rattle.std.proofs.Common.{◌≡◌, inl, inr, ◌<◌, Bool, true, ℕ, List, Some, None, refl, sym, ◌∙◌, ap, subst, arith}
+use Rattle.disk_edge.specs.Disk.{DiskModel}
+use Rattle.journal_core.specs.Fronts.{IsFront, front_of}
 use Rattle.journal_core.specs.Records.{Opens}
-use Rattle.journal_core.specs.Standing.{Standing}
 use Rattle.journal_core.specs.declared.header.Header.{Header}
 use Rattle.compact_core.specs.Carrying.{Carrying}
 use Rattle.compact_core.specs.Copies.{Copies, InDoubt, IsCopyOrShut}
@@ -66,18 +64,3 @@ module _ {D : Type 0} (model : DiskModel D) (g : ℕ) (carry : Carrying D) (h : 
         (doubt.some.0, doubt.some.1, opens_copy doubt.some.0 doubt.some.2),
       ),
     )
-
-    pub sure_has : (second : Bool) → (Copies model carry h.base h.commits → IsShut (model.images after))
-        → Beside model second g None None (Idle after false)
-    sure_has second shut = (
-      refl,
-      λ _. refl,
-      λ l told y i. shut_loses second g y (shut (before l told) y i),
-    )
-
-  pub ending_rests : (journal : Standing D) → (model.content carry.disk ≡ None → model.content journal.disk ≡ None)
-      → (Copies model carry h.base h.commits → Rests model journal (front_of carry.header h.base) h.commits)
-      → IfTold (model.content journal.disk) (λ _. Rests model journal (front_of h.header h.base) h.commits)
-  ending_rests journal untold rests l told =
-      subst (λ (k : Header). Rests model journal (front_of k h.base) h.commits) r.header
-      (rests (before journal.disk untold l told))

@@ -1,26 +1,22 @@
 -- Two disks are opened.
 use Rattle.std.proofs.Common.{◌≡◌, inl, inr, ◌<◌, ◌≤◌, [], Bool, false, true, ℕ, List, Some, None, sym, ◌∙◌, ap, subst, arith}
-use Rattle.disk_edge.specs.Disk.{DiskModel, Exactly, IfTold, Rose}
+use Rattle.disk_edge.specs.Disk.{DiskModel, Exactly, IfTold}
 use Rattle.journal_core.proofs.FrontLaws.{at_front, one_generation, part_peeked}
 use Rattle.journal_core.specs.Fronts.{IsHeader, IsOpen, IsOpenAt, IsPart, IsPeeked}
 use Rattle.journal_core.specs.Journal.{Reads}
 use Rattle.journal_core.specs.Looks.{Narrows}
 use Rattle.journal_core.specs.Standing.{Standing}
 use Rattle.journal_core.specs.declared.header.Header.{Header}
-use Rattle.disk_pair.specs.Choices.{IsRead}
+use Rattle.disk_pair.specs.Choices.{Chosen, IsRead}
 use Rattle.disk_pair.specs.Pairs.{Loses}
 use Rattle.disk_pair.specs.Stands.{OtherHas}
 use Rattle.disk_pair.specs.Term.{first_of}
+use Rattle.disk_pair.specs.declared.choice.Which.{Which}
 
 -- a header that was read is of a disk that is open with its generation
 pub peeked_open : (h : Header) (l : List ℕ) → IsPeeked (Some h) l → IsOpenAt h.generation l
 peeked_open h l (inl one) = inl (one.0, ap (λ (k : Header). k.generation) one.1)
 peeked_open h l (inr two) = inr (two.0, two.1, ap (λ (k : Header). k.generation) two.2)
-
--- a count that rose behind calls that do not lower it
-pub rose_after : (a b c : ℕ) → a ≤ b → Rose b c → Rose a c
-rose_after a b c le (inl less) = inl (omega (arith, le, less))
-rose_after a b c le (inr full) = inr full
 
 some_is : (l k : List ℕ) → Some l ≡ Some k → l ≡ k
 some_is l k e = cc e
@@ -38,6 +34,13 @@ read_open false x y read = (read.0, read.1)
 read_open true x y read = (read.0, read.1)
 
 module _ {D : Type 0} (model : DiskModel D) where
+  -- the disk that was chosen is read
+  pub chosen_read : (a b : D) (which : Option Which) (w : Which) → which ≡ Some w
+      → IfTold (model.content a) (λ x. IfTold (model.content b) (λ y. Chosen which x y))
+      → IfTold (model.content a) (λ x. IfTold (model.content b) (λ y. Chosen (Some w) x y))
+  chosen_read a b which w is chosen x told y told_b =
+      subst (λ (o : Option Which). Chosen o x y) is (chosen x told y told_b)
+
   -- the header of a journal that is opened
   pub header_read : (journal : Standing D) (front : List ℕ) → IsPart journal.header [] front → IsHeader journal.header
       → Reads model journal front [] → (l : List ℕ) → model.content journal.disk ≡ Some l

@@ -1,5 +1,5 @@
 -- What the other disk has, as a call is made on it.
-use Rattle.std.proofs.Common.{◌≡◌, ◌⊎◌, inl, inr, ◌∷◌, ◌++◌, ◌+◌, [], Bool, false, ℕ, List, Option, Some, None, refl, sym, ◌∙◌, subst, arith, length-append}
+use Rattle.std.proofs.Common.{◌≡◌, ◌⊎◌, inl, inr, ◌∷◌, ◌++◌, ◌+◌, [], Bool, ℕ, List, Option, Some, None, refl, sym, ◌∙◌, subst, arith, length-append}
 use Rattle.disk_edge.specs.Disk.{DiskModel, IfTold}
 use Rattle.journal_core.proofs.FrontLaws.{begins_open}
 use Rattle.journal_core.specs.Fronts.{IsOpen, IsShut}
@@ -9,7 +9,7 @@ use Rattle.compact_core.specs.Carrying.{Carrying}
 use Rattle.compact_core.specs.Copies.{Copies}
 use Rattle.disk_pair.specs.Pairs.{History, with_base, with_commit}
 use Rattle.disk_pair.specs.Puts.{IsOther}
-use Rattle.disk_pair.specs.Stands.{Beside, Carries, OtherHas}
+use Rattle.disk_pair.specs.Stands.{Beside, Carries}
 use Rattle.disk_pair.specs.Term.{disk_of}
 use Rattle.disk_pair.specs.declared.other.Other.{Other}
 use Rattle.disk_pair.specs.declared.other.Other.TheVariants.{Idle, Copy}
@@ -34,16 +34,6 @@ module _ {D : Type 0} (model : DiskModel D) where
       other_is second g finish (model.images disk) (h.2 l told) y i
   other_shows second g finish copy (Copy carry) h l told y i =
       inr (shut_loses second g y (copies_shut carry h.1.0.base h.1.0.commits (h.1.2.copies l told) y i))
-
-  -- a disk that is known not to be doubtful
-  pub not_doubtful : (second : Bool) (g : ℕ) (finish copy : Option History) (disk : D)
-      → Beside model second g finish copy (Idle disk false) → Beside model second g None copy (Idle disk false)
-  not_doubtful second g finish copy disk h = (
-    h.0,
-    λ _. refl,
-    subst (λ (f : Option History). IfTold (model.content disk) (λ _. OtherHas second g f (model.images disk)))
-        (h.1 refl) h.2,
-  )
 
   -- an idle disk that was changed
   module _ (second : Bool) (g : ℕ) (finish : Option History) (old new : D) (doubtful : Bool)
@@ -140,9 +130,3 @@ module _ {D : Type 0} (model : DiskModel D) where
           subst (Copies model new (h.base ++ payload ∷ [])) (sym none)
           (goes (subst (Copies model old h.base) none (r.copies k.0 k.1)));
     }
-
-    -- at a moment of a call that adds to it, the disk is not open
-    pub carry_shows : (second : Bool) (l : List ℕ) → model.content new.disk ≡ Some l → (y : List ℕ)
-        → (Copies model old h.base h.commits → IsOpen y → ⊥) → IsOther second g None y
-    carry_shows second l told y closed =
-        let k = carry_before l told in inr (shut_loses second g y (closed (r.copies k.0 k.1)))

@@ -28,7 +28,8 @@ PutGives (Err NoMemory) Has ps doubt payload = StaysOrEnds Has ps doubt
 
 -- an image opens to the payloads, or to these and the one in doubt
 abbrev pub ShowsDoubt : List ℕ → List (List ℕ) → Option (List ℕ) → List ℕ → Type 0
-ShowsDoubt front ps doubt image = Opens front ps image ⊎ ((p : List ℕ) × (doubt ≡ Some p) × Opens front (ps ++ p ∷ []) image)
+ShowsDoubt front ps doubt image = Opens front ps image
+    ⊎ ((p : List ℕ) × (doubt ≡ Some p) × Opens front (ps ++ p ∷ []) image)
 
 -- or to these and the new one
 abbrev pub ShowsOne : List ℕ → List (List ℕ) → Option (List ℕ) → List ℕ → List ℕ → Type 0

@@ -36,8 +36,8 @@ pub record Carries {D : Type 0} (model : DiskModel D) (g : ℕ) (carry : Carryin
   pub fit : AllByRecursion IsShort copy.base
   pub copies : IfTold (model.content carry.disk) (λ _. Copies model carry copy.base copy.commits)
 
--- What the other disk has beside a current one of this generation: the finish in doubt, and the running copy. A finish is
--- in doubt only where the disk is known to be doubtful.
+-- What the other disk has beside a current one of this generation: the finish in doubt, and the running copy. A finish
+-- is in doubt only where the disk is known to be doubtful.
 abbrev pub Beside : {D : Type 0} → DiskModel D → Bool → ℕ → Option History → Option History → Other D → Type 0
 Beside model second g finish copy (Idle disk doubtful) = (copy ≡ None) × (doubtful ≡ false → finish ≡ None)
     × IfTold (model.content disk) (λ _. OtherHas second g finish (model.images disk))

@@ -7,8 +7,8 @@ use Rattle.journal_core.specs.declared.header.Header.{Header}
 use Rattle.disk_pair.specs.declared.other.Other.{Other}
 use Rattle.disk_pair.specs.declared.other.Other.TheVariants.{Idle, Copy}
 
--- The journal of the current disk; the other disk, which is idle, or has a running copy; whether the current disk is the
--- second one.
+-- The journal of the current disk; the other disk, which is idle, or has a running copy; whether the current disk is
+-- the second one.
 pub record Paired (D : Type 0) : Type 0 where
   pub journal : Standing D
   pub other : Other D

@@ -1,12 +1,11 @@
 //! Two disks are opened: one of them is picked, and its journal is read.
 
-ghost use Rattle.std.specs.Prelude.{◌≡◌, ◌⊎◌, [], false, List, None, IfErr, IfOk, Some, ℕ};
+ghost use Rattle.std.specs.Prelude.{◌≡◌, ◌⊎◌, None, IfErr, IfOk};
 ghost use Rattle.disk_edge.specs.Disk.{Exactly, Faulted, IfTold};
-ghost use Rattle.journal_core.specs.Fronts.{BeginsAt, IsHeader, IsOpen, IsPart, IsPeeked};
-ghost use Rattle.journal_core.specs.Journal.{Reads};
+ghost use Rattle.journal_core.specs.Fronts.{IsOpen};
 ghost use Rattle.journal_core.specs.Looks.{Narrows};
 ghost use Rattle.disk_pair.specs.Choices.{Chosen, IsRead};
-ghost use Rattle.disk_pair.specs.Loads.{a_after, b_after, current_after};
+ghost use Rattle.disk_pair.specs.Loads.{IsOpening, a_after, b_after, current_after};
 ghost use Rattle.disk_pair.specs.Stands.{OtherHas};
 
 use crate::choice::{Which, choose};
@@ -26,17 +25,12 @@ pub struct Picked<D: Disk> {
 /// Syncs two disks, and opens the journal of the one that is read: of two that are open the one of greater generation,
 /// and `a` where both are equal. Nothing is written. Takes no memory.
 ///
-/// `NotAStore`: neither disk is open. `Disk`: a disk failed, and counted a fault. The disks come back beside each fault.
+/// `NotAStore`: neither disk is open. `Disk`: a disk failed, and counted a fault. The disks come back beside each
+/// fault.
 pub fn load<D: Disk>(alloc: Global, a: D, b: D) -> Result<Picked<D>, (LoadFault, D, D)>
     ensures picks { IfOk result (λ picked. IfTold (D.model.content a)
         (λ x. IfTold (D.model.content b) (λ y. IsRead picked.second x y))) }
-    ensures reads { IfOk result (λ picked. IfTold (D.model.content picked.journal.disk)
-        (λ l. (front : List ℕ) × IsPart picked.journal.header [] front
-        × Reads D.model picked.journal front [] × IsPeeked (Some picked.journal.header) l)) }
-    ensures start { IfOk result (λ picked. BeginsAt picked.journal.header picked.journal.place
-        × (picked.journal.left ≡ picked.journal.header.base_count)
-        × (picked.journal.ready ≡ false) × (picked.journal.doubt ≡ false)) }
-    ensures range { IfOk result (λ picked. IsHeader picked.journal.header) }
+    ensures opening { IfOk result (λ picked. IsOpening D.model picked.journal) }
 
     // Each image of the other disk is not read beside the one that is read.
     ensures other { IfOk result (λ picked. IfTold (D.model.content picked.journal.disk)
@@ -77,13 +71,7 @@ fn open_picked<D: Disk>(
     other: D,
     second: bool,
 ) -> Result<Picked<D>, (LoadFault, D, D)>
-    ensures reads { IfOk result (λ picked. IfTold (D.model.content picked.journal.disk)
-        (λ l. (front : List ℕ) × IsPart picked.journal.header [] front
-        × Reads D.model picked.journal front [] × IsPeeked (Some picked.journal.header) l)) }
-    ensures start { IfOk result (λ picked. BeginsAt picked.journal.header picked.journal.place
-        × (picked.journal.left ≡ picked.journal.header.base_count)
-        × (picked.journal.ready ≡ false) × (picked.journal.doubt ≡ false)) }
-    ensures range { IfOk result (λ picked. IsHeader picked.journal.header) }
+    ensures opening { IfOk result (λ picked. IsOpening D.model picked.journal) }
     ensures kept { IfOk result (λ picked. (picked.other ≡ other) × (picked.second ≡ second)) }
     ensures came_back { IfErr result (λ e. e.2 ≡ other) }
     ensures not_a_store { IfErr result (λ e. e.0 ≡ LoadFault.NotAStore

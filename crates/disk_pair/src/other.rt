@@ -117,7 +117,7 @@ pub(crate) fn start<D: Disk>(
     }
 }
 
-/// Writes the next base record of a copy. Where the disk fails, the copy is given up.
+/// Adds the next base record to a copy. Where the disk fails, the copy is given up.
 pub(crate) fn put_base<D: Disk>(carry: Carry<D>, payload: &[u8]) -> (Other<D>, Result<(), PutFault>)
     requires left { carry.bases < carry.header.base_count }
     requires some { 1 ≤ length payload.now }
@@ -147,7 +147,7 @@ pub(crate) fn put_base<D: Disk>(carry: Carry<D>, payload: &[u8]) -> (Other<D>, R
     }
 }
 
-/// Writes the next commit of a copy. Where the disk fails, the copy is given up.
+/// Adds the next commit to a copy. Where the disk fails, the copy is given up.
 pub(crate) fn add<D: Disk>(carry: Carry<D>, payload: &[u8]) -> (Other<D>, Result<(), PutFault>)
     requires whole { carry.bases ≡ carry.header.base_count }
     requires some { 1 ≤ length payload.now }

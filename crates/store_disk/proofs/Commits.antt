@@ -94,7 +94,8 @@ module _ {D : Type 0} (model : DiskModel D) (law : RunsStaySound) (heads : Rebas
     (m : Memory) (pair : Paired D) (copies : Option CopyTerm) (goes_a : Goes model (disk_a store.pair) (disk_a pair))
     (goes_b : Goes model (disk_b store.pair) (disk_b pair))
     (kept : pair.journal.header ≡ store.pair.journal.header)
-    (progress : progress_of pair.other ≡ progress_of store.pair.other) (p : List ℕ) (written : p ≡ payload (change_of c))
+    (progress : progress_of pair.other ≡ progress_of store.pair.other) (p : List ℕ)
+    (written : p ≡ payload (change_of c))
     (given : (t : PairState) → StandsOnDisks model store.pair t → AtEachPair model store.pair pair
     (PairMayOpen (λ w. PairMayShow t w ⊎ (w ≡ with_commit t.now p)))) where
   abbrev new : StoreTerm D

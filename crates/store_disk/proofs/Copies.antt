@@ -23,7 +23,8 @@ past-of h copy c l past = (subst (IsPastCopy h) l.is past).1
 
 -- a commit more
 module _ (grow : RebasesGrow) (h : History) (change : Change) (copy : Option Copying) (past : IsPastCopy h copy) where
-  after : (version : ℕ) → version ≤ head h → rebase (grown h (change ∷ [])) version ≡ grown (rebase h version) (change ∷ [])
+  after : (version : ℕ) → version ≤ head h
+      → rebase (grown h (change ∷ [])) version ≡ grown (rebase h version) (change ∷ [])
   after version le = grow h (change ∷ []) version le
 
   pub has-more : (c : Option CopyTerm) → HasCopy h copy c
@@ -33,7 +34,8 @@ module _ (grow : RebasesGrow) (h : History) (change : Change) (copy : Option Cop
       let same = after c.version (past-of h copy c l past) in
       let size = length-append c.commits (payload change ∷ []) in
       record {
-        is = ap (option_map one_more) l.is ∙ ap (λ n. Some (record { version = c.version; left = n })) (omega (arith, size));
+        is = ap (option_map one_more) l.is
+            ∙ ap (λ n. Some (record { version = c.version; left = n })) (omega (arith, size));
         states = subst (λ (k : History). c.states ≡ count_by (λ e. nat_le c.from e.0) k.base) (sym same) l.states;
         made = l.made;
         commits = ap payloads same ∙ map-append payload (rebase h c.version).commits (change ∷ [])
@@ -48,7 +50,8 @@ module _ (grow : RebasesGrow) (h : History) (change : Change) (copy : Option Cop
   header-more None l generation p header = tt
   header-more (Some c) l generation None header = absurd header
   header-more (Some c) l generation (Some p) header =
-      header ∙ ap (λ (k : History). (history_of (generation + 1) k).header) (sym (after c.version (past-of h copy c l past)))
+      header
+      ∙ ap (λ (k : History). (history_of (generation + 1) k).header) (sym (after c.version (past-of h copy c l past)))
 
 all-and-one : {X : Type 0} (P : X → Type 0) (xs : List X) (x : X) → AllByRecursion P xs → P x
     → AllByRecursion P (xs ++ x ∷ [])
@@ -62,8 +65,8 @@ follow-more version None p payload fit none = none
 follow-more version (Some c) None payload fit f = absurd f
 follow-more version (Some c) (Some p) payload fit f =
     let size = length-append c.commits (payload ∷ []) in
-    let same : version + 1 - (c.version + length (c.commits ++ payload ∷ [])) ≡ version - (c.version + length c.commits) =
-    omega (arith, size) in
+    let same : version + 1 - (c.version + length (c.commits ++ payload ∷ []))
+    ≡ version - (c.version + length c.commits) = omega (arith, size) in
     record {
       bases = f.bases;
       few = f.few;

@@ -40,8 +40,8 @@ goes-other model old new same a b = go old.second new.second same a b
     go false true e a b = absurd (true≢false e)
     go true false e a b = absurd (true≢false (sym e))
 
--- Two calls one after the other, of which each touches the other disk alone: what is shown at each moment of the one and
--- of the other is shown at each moment of both.
+-- Two calls one after the other, of which each touches the other disk alone: what is shown at each moment of the one
+-- and of the other is shown at each moment of both.
 two-steps : {D : Type 0} (model : DiskModel D)
     → ((d : D) (t v u : ℕ) (c : List ℕ) → t ≤ v → v ≤ u → model.images_between d t u c
     → model.images_between d t v c ⊎ model.images_between d v u c)
@@ -59,8 +59,8 @@ two-steps model parts P journal old mid new false goes went first later l is k i
     (first l is was.0 was.1 x i) (later l is k it x i) y j
 two-steps model parts P journal old mid new true goes went first later l is k it x i y j =
     let was = told-before (model.content (disk_of mid)) (model.content (disk_of new)) went.untold l is in
-    two_calls model (disk_of old) (disk_of mid) (disk_of new) (λ x. P x y) (parts (disk_of new)) goes.past.later went.past
-    (λ x i. first was.0 was.1 k it x i y j) (λ x i. later l is k it x i y j) x i
+    two_calls model (disk_of old) (disk_of mid) (disk_of new) (λ x. P x y) (parts (disk_of new)) goes.past.later
+    went.past (λ x i. first was.0 was.1 k it x i y j) (λ x i. later l is k it x i y j) x i
 
 pub two-moments : {D : Type 0} (model : DiskModel D)
     → ((d : D) (t v u : ℕ) (c : List ℕ) → t ≤ v → v ≤ u → model.images_between d t u c
@@ -82,4 +82,5 @@ two-moments {D} model parts P old mid new j f k g a b c d first later =
     (goes-other model old mid f a b) (goes-other model mid new g c d)
     (subst (λ (q : Paired D). AtEachPair model old q P) is-mid first)
     (subst (λ (q : Paired D).
-    AtEachPair model q (record { journal = old.journal; other = new.other; second = old.second }) P) is-mid (subst (λ (q : Paired D). AtEachPair model mid q P) is-new later)))
+    AtEachPair model q (record { journal = old.journal; other = new.other; second = old.second }) P) is-mid
+    (subst (λ (q : Paired D). AtEachPair model mid q P) is-new later)))

@@ -2,9 +2,8 @@
 use Rattle.std.proofs.Common.{◌≡◌, ◌⊎◌, ◌+◌, ◌-◌, ◌≤◌, ◌∙◌, ap, arith, Err, false, inl, inr, IsSomeAnd, List, [], ◌∷◌, None, Ok, Option, option_map, refl, Result, Some, subst, suc, sym, zero, ℕ}
 use Rattle.disk_edge.specs.Disk as disk
 use Rattle.disk_edge.specs.Disk.{DiskModel}
-use Rattle.disk_pair.specs.Gives.{OnFault}
-use Rattle.disk_pair.specs.Pairs.{MayShow as PairMayShow, PairOpensTo as PairMayOpen, State as PairState}
-use Rattle.disk_pair.specs.Stands.{StandsFor as StandsOnDisks}
+use Rattle.disk_pair.specs.Gives.{CurrentStays, OnFault, PairGoes}
+use Rattle.disk_pair.specs.Pairs.{MayShow as PairMayShow, PairOpensTo as PairMayOpen}
 use Rattle.disk_pair.specs.Term.{AtEachPair, Goes, disk_a, disk_b}
 use Rattle.disk_pair.specs.declared.fault.PutFault.{PutFault}
 use Rattle.disk_pair.specs.declared.fault.PutFault.TheVariants as put
@@ -103,17 +102,12 @@ some-left None n e = cc e
 some-left (Some c) n e = ap (λ k. Some (k - 1)) (same-some e)
 
 -- what one item tells of the store before it and after it
-pub record Item {D : Type 0} (model : DiskModel D) (old new : StoreTerm D) (r : Result (Unit {0}) PutFault) : Type 0 where
-  pub gives : (s : State) → StandsFor model old s → ItemGives model r new s
-  pub moments : (t : PairState) → StandsOnDisks model old.pair t
-      → AtEachPair model old.pair new.pair (PairMayOpen (PairMayShow t))
-  pub memory : new.memory ≡ old.memory
-  pub a : Goes model (disk_a old.pair) (disk_a new.pair)
-  pub b : Goes model (disk_b old.pair) (disk_b new.pair)
-  pub cause : OnFault r (disk.Faulted model (disk_a old.pair) (disk_a new.pair)
-      ⊎ disk.Faulted model (disk_b old.pair) (disk_b new.pair))
-  pub journal : new.pair.journal ≡ old.pair.journal
-  pub second : new.pair.second ≡ old.pair.second
+pub record Item {D : Type 0} (model : DiskModel D) (old new : StoreTerm D) (r : Result (Unit {0}) PutFault) : Type 0
+  where
+    pub gives : (s : State) → StandsFor model old s → ItemGives model r new s
+    pub memory : new.memory ≡ old.memory
+    pub current : CurrentStays model old.pair new.pair
+    pub goes : PairGoes model r old.pair new.pair
 
 later-rose : (a b c : ℕ) → a ≤ b → disk.Rose b c → disk.Rose a c
 later-rose a b c le r = elim r [ inl less ↦ inl (omega (arith, le, less)) | inr end ↦ inr end ]
@@ -124,18 +118,18 @@ module _ {D : Type 0} (model : DiskModel D)
     (items : ℕ) (old mid new : StoreTerm D) (n : ℕ) (t : Taken model items old mid n)
     (r : Result (Unit {0}) PutFault) (x : Item model mid new r) where
   pub goes_a : Goes model (disk_a old.pair) (disk_a new.pair)
-  goes_a = goes-twice model (disk_a old.pair) (disk_a mid.pair) (disk_a new.pair) t.a x.a
+  goes_a = goes-twice model (disk_a old.pair) (disk_a mid.pair) (disk_a new.pair) t.a x.goes.a
 
   pub goes_b : Goes model (disk_b old.pair) (disk_b new.pair)
-  goes_b = goes-twice model (disk_b old.pair) (disk_b mid.pair) (disk_b new.pair) t.b x.b
+  goes_b = goes-twice model (disk_b old.pair) (disk_b mid.pair) (disk_b new.pair) t.b x.goes.b
 
   -- what is shown at each moment of the item alone
   at-item : (s : State) → StandsFor model old s
       → AtEachPair model mid.pair new.pair (PairMayOpen (PairMayShow (on_pair s)))
   at-item s h l is k it =
-      let a = told-before (model.content (disk_a mid.pair)) (model.content (disk_a new.pair)) x.a.untold l is in
-      let b = told-before (model.content (disk_b mid.pair)) (model.content (disk_b new.pair)) x.b.untold k it in
-      x.moments (on_pair (taken n s)) ((t.stands s h).pair a.0 a.1 b.0 b.1) l is k it
+      let a = told-before (model.content (disk_a mid.pair)) (model.content (disk_a new.pair)) x.goes.a.untold l is in
+      let b = told-before (model.content (disk_b mid.pair)) (model.content (disk_b new.pair)) x.goes.b.untold k it in
+      x.current.moments (on_pair (taken n s)) ((t.stands s h).pair a.0 a.1 b.0 b.1) l is k it
 
   moments : (s : State) → StandsFor model old s
       → AtEachPair model old.pair new.pair (PairMayOpen (PairMayShow (on_pair s)))
@@ -146,7 +140,8 @@ module _ {D : Type 0} (model : DiskModel D)
           AtEachPair model m.pair new.pair (PairMayOpen (PairMayShow (on_pair s)))) (t.none e) (at-item s h)
       go (suc k) e =
           two-moments model parts (PairMayOpen (PairMayShow (on_pair s))) old.pair mid.pair new.pair t.journal t.second
-          x.journal x.second t.a t.b x.a x.b (t.moments (omega (arith, e)) s h) (at-item s h)
+          x.current.journal x.current.second t.a t.b x.goes.a x.goes.b
+          (t.moments (omega (arith, e)) s h) (at-item s h)
 
   -- with one item more
   pub next : ((s : State) → StandsFor model mid s → StandsFor model new (counted model new.pair (one_less s)))
@@ -160,8 +155,8 @@ module _ {D : Type 0} (model : DiskModel D)
     a = goes_a;
     b = goes_b;
     memory = x.memory ∙ t.memory;
-    journal = x.journal ∙ t.journal;
-    second = x.second ∙ t.second;
+    journal = x.current.journal ∙ t.journal;
+    second = x.current.second ∙ t.second;
     left =
         let one : items - n - 1 ≡ items - (n + 1) = omega arith in
         less ∙ (some-left mid.copy (items - n) t.left ∙ ap (λ k. Some k) one);
@@ -170,7 +165,8 @@ module _ {D : Type 0} (model : DiskModel D)
   module _ (law : RunsStaySound) (heads : RebasesKeepHeads) (s : State) (h : StandsFor model old s) where
     failed : OnFault r (disk.Faulted model (disk_a mid.pair) (disk_a new.pair)
         ⊎ disk.Faulted model (disk_b mid.pair) (disk_b new.pair)) → OnFault r
-        (disk.Faulted model (disk_a old.pair) (disk_a new.pair) ⊎ disk.Faulted model (disk_b old.pair) (disk_b new.pair))
+        (disk.Faulted model (disk_a old.pair) (disk_a new.pair)
+        ⊎ disk.Faulted model (disk_b old.pair) (disk_b new.pair))
     failed cause = go r cause
       where
         go : (r : Result (Unit {0}) PutFault) → OnFault r (disk.Faulted model (disk_a mid.pair) (disk_a new.pair)
@@ -206,7 +202,7 @@ module _ {D : Type 0} (model : DiskModel D)
         (subst (λ (r : Result (Unit {0}) PutFault). ItemGives model r new (counted model mid.pair (taken n s))) is
         (x.gives (counted model mid.pair (taken n s)) (t.stands s h)))
         (subst (λ (r : Result (Unit {0}) PutFault). OnFault r (disk.Faulted model (disk_a old.pair) (disk_a new.pair)
-        ⊎ disk.Faulted model (disk_b old.pair) (disk_b new.pair))) is (failed x.cause))
+        ⊎ disk.Faulted model (disk_b old.pair) (disk_b new.pair))) is (failed x.goes.cause))
 
 -- the items of a step are written
 module _ {D : Type 0} (model : DiskModel D) (law : RunsStaySound) (heads : RebasesKeepHeads) (items : ℕ)

@@ -127,7 +127,8 @@ module _ (h : History) (copy : Option Copying) (c : CopyTerm) (l : Lacks h copy 
         let sizes : length whole.base ≡ length f.before + (1 + length f.more) =
         omega (arith, length-map base base_payload, count, length-append f.before (e ∷ f.more)) in
         let commits : length whole.commits ≡ length c.commits =
-        ap (λ (ps : List (List ℕ)). length ps) (l.commits ∙ ap (λ (ps : List (List ℕ)). ps ++ c.commits) (l.first some)) in
+        ap (λ (ps : List (List ℕ)). length ps)
+        (l.commits ∙ ap (λ (ps : List (List ℕ)). ps ++ c.commits) (l.first some)) in
         let at : length whole.base + length whole.commits - (left c - 1 + 1) ≡ length (map base_payload f.before) =
         omega (arith, sizes, commits, l.states, with, length-map f.before base_payload, some) in
         let item : get_or whole.base (length whole.base + length whole.commits - (left c - 1 + 1)) [] ≡ base_payload e =
@@ -166,5 +167,6 @@ module _ (h : History) (copy : Option Copying) (c : CopyTerm) (l : Lacks h copy 
   no-commits generation some =
       let w = history_of generation (rebase h c.version) in
       let commits : length w.commits ≡ length c.commits =
-      ap (λ (ps : List (List ℕ)). length ps) (l.commits ∙ ap (λ (ps : List (List ℕ)). ps ++ c.commits) (l.first some)) in
+      ap (λ (ps : List (List ℕ)). length ps)
+      (l.commits ∙ ap (λ (ps : List (List ℕ)). ps ++ c.commits) (l.first some)) in
       let none : length w.commits - left c ≡ 0 = omega (arith, commits, some) in ap (λ n. take n w.commits) none

@@ -9,6 +9,7 @@ use Rattle.commit_log.specs.Log.{DamagesLog, IsLog, Takes, changes_of, payloads 
 use Rattle.commit_log.specs.declared.base.BaseEntry.{BaseEntry}
 use Rattle.commit_log.specs.declared.change.Commit.{Commit}
 use Rattle.disk_edge.specs.Disk.{DiskModel, IfTold}
+use Rattle.disk_pair.specs.Loads.{IsOpening}
 use Rattle.disk_pair.specs.Pairs.{OpensAs}
 use Rattle.journal_core.proofs.FrontLaws.{whole_front}
 use Rattle.journal_core.specs.Fronts.{IsFront, IsPart, front_of}
@@ -22,7 +23,7 @@ use Rattle.store_machine.specs.History.{head}
 use Rattle.store_machine.specs.declared.machine.History.{History}
 use Rattle.store_disk.specs.Loads.{DamagesDisk, IsBegun}
 use Rattle.store_disk.specs.Payloads.{base_payload, history_of, told, told_entry, told_history}
-use Rattle.store_disk.specs.Replays.{IsLoaded, IsOpening, IsReplayed, LacksText, RestsAs, Stops}
+use Rattle.store_disk.specs.Replays.{IsLoaded, IsReplayed, LacksText, RestsAs, Stops}
 use Rattle.store_disk.proofs.Logged.{base-near, end-near, lacks-structure, may-not-follow}
 use Rattle.store_disk.proofs.Payloads.{same-bases, same-payloads}
 

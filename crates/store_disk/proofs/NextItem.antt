@@ -51,7 +51,8 @@ module _ {D : Type 0} (model : DiskModel D) (old new : Paired D) (r : Result (Un
       → StandsOnDisks model old (on_pair s) → CopyGives r (StandsOnDisks model new) (on_pair s) (with_next s c)
   commit-given none x rest split p is gives stands =
       subst (λ (w : Written). CopyGives r (StandsOnDisks model new) (on_pair s) w)
-      (ap (λ q. with_commit so-far q) is ∙ sym (commit-written s.history s.copy c l (s.generation + 1) none x rest split))
+      (ap (λ q. with_commit so-far q) is
+      ∙ sym (commit-written s.history s.copy c l (s.generation + 1) none x rest split))
       (gives (on_pair s) so-far stands has)
 
   -- it is given up

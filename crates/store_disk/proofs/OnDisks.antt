@@ -143,7 +143,8 @@ after-commit grow s c sound =
     let copy = copy-meanwhile grow s c s.copy sound.bases.copy in
     λ i. record { now = now i; commit = None; finish = None; copy = copy i }
 
-pub after-start : (s : State) → on_pair (record (copying s (head s.history) (length (entries (now s)))) { finish = None })
+pub after-start : (s : State)
+    → on_pair (record (copying s (head s.history) (length (entries (now s)))) { finish = None })
     ≡ record (on_pair s) {
       finish = None;
       copy = Some (empty_copy (next_header (on_pair s).now.header (head s.history) (length (entries (now s)))));
@@ -177,7 +178,8 @@ recovered-history law s h g r sound = (law s (crashed s h g) (record {
 } ∷ []) (refl, (r, refl), refl) sound).history
 
 past-finish : (s : State) (version : ℕ) → MayFinish s version → IsSound s → IsPast s version
-past-finish s version (inl is) sound = subst (λ (o : Option ℕ). MatchOption o (Unit {0}) (IsPast s)) is sound.bases.finish
+past-finish s version (inl is) sound =
+    subst (λ (o : Option ℕ). MatchOption o (Unit {0}) (IsPast s)) is sound.bases.finish
 past-finish s version (inr is) sound =
     subst (λ (o : Option Copying). MatchOption o (Unit {0}) (λ copy. IsPast s copy.version)) is sound.bases.copy
 

@@ -31,8 +31,8 @@ ready-beside {D} m old new was copy same stands copying h = record {
   stands = stands;
   few = h.few;
   bases = subst (λ (j : Standing D). j.header.base_count ≤ 4294967295) (sym same) h.bases;
-  place = subst (λ (j : Standing D). j.place ≤ 20 + (5 + LONGEST_PAYLOAD) * (j.header.base_count + m.version)) (sym same)
-      h.place;
+  place = subst (λ (j : Standing D). j.place ≤ 20 + (5 + LONGEST_PAYLOAD) * (j.header.base_count + m.version))
+      (sym same) h.place;
   copying = copying;
 }
 
@@ -80,7 +80,8 @@ dropped-serves law m s h =
 pub item-ready : {D : Type 0} → RunsStaySound → (m : Memory) (old new : Paired D) (c next : CopyTerm)
     → new.journal ≡ old.journal
     → ((s : State) → IsServing m s → Lacks s.history s.copy c → Lacks s.history (one_less s).copy next)
-    → ((version : ℕ) → Follow version (Some c) (progress_of old.other) → Follow version (Some next) (progress_of new.other))
+    → ((version : ℕ) → Follow version (Some c) (progress_of old.other)
+    → Follow version (Some next) (progress_of new.other))
     → IsReady m old (Some c) → IsReady m new (Some next)
 item-ready law m old new c next same lacks follows h =
     let s : State = h.stands.0 in
@@ -116,8 +117,8 @@ start-ready law m old new version left header is count few bases same progress h
     let serving = h.stands.1 in
     let started = start-serves law m s left (count s serving.stands) h.stands.2 serving in
     let at : head s.history ≡ version = sym (is ∙ serving.stands.version) in
-    let copying : Follow m.version (Some (new_copy version left)) (Some (record { header = header; place = 20; bases = 0 }))
-    = record {
+    let copying : Follow m.version (Some (new_copy version left))
+    (Some (record { header = header; place = 20; bases = 0 })) = record {
       bases = omega (arith, bases);
       few = omega (arith, bases, few, h.few);
       fit = tt;

@@ -127,6 +127,7 @@ module _ {D : Type 0} (model : DiskModel D) (law : RunsStaySound) (heads : Rebas
         copy = subst (λ v. Lacks s.history (Some (record { version = head s.history; left = left })) (new_copy v left))
             (sym is) (start-lacks s left count);
         copied = subst (HasHeader s.generation s.history (Some (new_copy version left))) (sym progress)
-            (head-is ∙ ap (λ v. next_header (on_pair s).now.header v (length (entries (snapshot s.history v)))) (sym is));
+            (head-is
+            ∙ ap (λ v. next_header (on_pair s).now.header v (length (entries (snapshot s.history v)))) (sym is));
         counts = refl;
       }) (opened model law heads store s h new goes_a goes_b moments)

@@ -53,8 +53,8 @@ on_pair s = record {
   copy = option_map (copy_so_far s) s.copy;
 }
 
--- What a copy of a history lacks is what memory has of it. Of the states at its version those of identifiers from one on
--- are left, and of the commits since those behind some. As long as a state is left, each commit is.
+-- What a copy of a history lacks is what memory has of it. Of the states at its version those of identifiers from one
+-- on are left, and of the commits since those behind some. As long as a state is left, each commit is.
 pub record Lacks (h : History) (copy : Option Copying) (c : CopyTerm) : Type 0 where
   pub is : copy ≡ Some (record { version = c.version; left = c.states + length c.commits })
   pub states : c.states ≡ count_by (λ e. nat_le c.from e.0) (rebase h c.version).base
@@ -79,7 +79,8 @@ IfBothTold model pair P = IfTold (model.content (disk_a pair)) (λ _. IfTold (mo
 
 -- The store stands for a state. What is in memory serves it. The current disk's header is that of the history from its
 -- base on. Where both disks tell their contents, they have this history, the commit and the finish in doubt, and the
--- copy so far. A copy runs where memory has one. The counts of faults are those of the disks. Whose the pins are is free.
+-- copy so far. A copy runs where memory has one. The counts of faults are those of the disks. Whose the pins are is
+-- free.
 pub record StandsFor {D : Type 0} (model : DiskModel D) (store : StoreTerm D) (s : State) : Type 0 where
   pub memory : IsServing store.memory s
   pub header : store.pair.journal.header ≡ (on_pair s).now.header
@@ -110,8 +111,8 @@ Follow version (Some c) (Some p) = Follows version c p
 abbrev pub IsFollowed : CopyTerm → Option Progress → Type 0
 IsFollowed c p = (version : ℕ) × (version ≤ 16777215) × Follow version (Some c) p
 
--- A store between two calls: memory serves some state, in which a copy runs where memory has one, and the current disk's
--- journal is at a place far below the end of places. For private clauses alone.
+-- A store between two calls: memory serves some state, in which a copy runs where memory has one, and the current
+-- disk's journal is at a place far below the end of places. For private clauses alone.
 pub record IsReady {D : Type 0} (memory : Memory) (pair : Paired D) (copy : Option CopyTerm) : Type 0 where
   pub stands : (s : State) × IsServing memory s × HasCopy s.history s.copy copy
   pub few : memory.version ≤ 16777215

@@ -1,5 +1,5 @@
 -- What a journal is made to in memory, and where that stops. For private clauses alone.
-use Rattle.std.specs.Prelude.{◌≡◌, ◌++◌, ◌≤◌, false, List, [], ◌∷◌, map, Some, ℕ}
+use Rattle.std.specs.Prelude.{◌≡◌, ◌++◌, ◌≤◌, List, ◌∷◌, map, ℕ}
 use Rattle.std.specs.List.{AllByRecursion}
 use Rattle.commit_log.specs.Base.{entries_of}
 use Rattle.commit_log.specs.Change.{Change as Logged, change_of}
@@ -9,8 +9,8 @@ use Rattle.commit_log.specs.declared.base.BaseEntry.{BaseEntry}
 use Rattle.commit_log.specs.declared.change.Commit.{Commit}
 use Rattle.disk_edge.specs.Disk.{DiskModel, IfTold}
 use Rattle.disk_pair.specs.Pairs.{OpensAs}
-use Rattle.journal_core.specs.Fronts.{BeginsAt, IsFront, IsHeader, IsPart, IsPeeked}
-use Rattle.journal_core.specs.Journal.{Reads, Rests}
+use Rattle.journal_core.specs.Fronts.{IsFront}
+use Rattle.journal_core.specs.Journal.{Rests}
 use Rattle.journal_core.specs.Standing.{Standing}
 use Rattle.store_core.specs.Based.{based}
 use Rattle.store_core.specs.Stored.{IsServing, StandsFor as InMemory, StoreTerm as Memory}
@@ -20,15 +20,6 @@ use Rattle.store_machine.specs.declared.machine.History.{History}
 use Rattle.store_machine.specs.declared.machine.State.{State}
 use Rattle.store_disk.specs.Loads.{MayFollow}
 use Rattle.store_disk.specs.Payloads.{base_payload, history_of, payloads, told, told_entry, told_history}
-
--- A journal that was just opened, at its first base record, or where it has none, at its first commit.
-pub record IsOpening {D : Type 0} (model : DiskModel D) (journal : Standing D) : Type 0 where
-  pub range : IsHeader journal.header
-  pub start : BeginsAt journal.header journal.place
-  pub left : journal.left ≡ journal.header.base_count
-  pub settled : journal.doubt ≡ false
-  pub reads : IfTold (model.content journal.disk) (λ l. (front : List ℕ) × IsPart journal.header [] front
-      × Reads model journal front [] × IsPeeked (Some journal.header) l)
 
 -- the store in memory stands for a base of this version alone, which has these entries
 abbrev pub HasBased : Memory → ℕ → List Entry → Type 0

@@ -1,11 +1,8 @@
 //! One step of a compaction: a copy starts, goes on, or takes the place of the disk that is read.
 
-ghost use Rattle.std.specs.Prelude.{◌≡◌, ◌≤◌, ◌-◌, ◌⊎◌, false, IsSomeAnd, None, OnOk, option_map, Some, true};
-ghost use Rattle.disk_edge.specs.Disk.{Faulted};
-ghost use Rattle.disk_pair.specs.Gives.{OnFault};
-ghost use Rattle.disk_pair.specs.Pairs.{MayShow, PairOpensTo, State as PairState};
-ghost use Rattle.disk_pair.specs.Stands.{StandsFor as PairStandsFor};
-ghost use Rattle.disk_pair.specs.Term.{AtEachPair, Goes, disk_a, disk_b};
+ghost use Rattle.std.specs.Prelude.{◌≡◌, ◌≤◌, ◌-◌, false, IsSomeAnd, None, OnOk, option_map, Some, true};
+ghost use Rattle.disk_pair.specs.Gives.{CurrentStays, PairGoes};
+ghost use Rattle.disk_pair.specs.Term.{Goes, disk_a, disk_b};
 ghost use Rattle.store_core.specs.Calls.{Calls, is_compact_worn};
 ghost use Rattle.store_core.specs.Replies.{compact_calls};
 ghost use Rattle.store_machine.specs.declared.machine.State.{State};
@@ -69,7 +66,7 @@ impl<D: Disk + Drop> Store<D> {
         }
     }
 
-    /// Writes the next of the items that the copy lacks, as many as a step does, or all where fewer are left.
+    /// Adds the next of the items that the copy lacks, as many as a step does, or all where fewer are left.
     pub(crate) fn go_on(&mut self, items: u32) -> Result<Compact, CompactFault>
         requires some { 1 ≤ items }
         requires left { option_map left self.old.copy ≡ Some items }
@@ -92,23 +89,16 @@ impl<D: Disk + Drop> Store<D> {
         Ok(Compact::More { left: items - step })
     }
 
-    // Writes the next item of the copy that runs. Where the disk fails, the copy is given up.
+    // Adds the next item to the copy that runs. Where the disk fails, the copy is given up.
     fn put_item(&mut self) -> Result<(), PutFault>
         requires { IsSomeAnd self.old.copy (λ c. 1 ≤ left c) }
         ensures gives { (s : State) → StandsFor D.model self.old s
             → ItemGives D.model result self.new s }
-        ensures moments { (t : PairState) → PairStandsFor D.model self.old.pair t
-            → AtEachPair D.model self.old.pair self.new.pair (PairOpensTo (MayShow t)) }
         ensures left { OnOk result (option_map left self.new.copy
             ≡ option_map (λ c. left c - 1) self.old.copy) }
         ensures memory { self.new.memory ≡ self.old.memory }
-        ensures a { Goes D.model (disk_a self.old.pair) (disk_a self.new.pair) }
-        ensures b { Goes D.model (disk_b self.old.pair) (disk_b self.new.pair) }
-        ensures cause { OnFault result
-            (Faulted D.model (disk_a self.old.pair) (disk_a self.new.pair)
-            ⊎ Faulted D.model (disk_b self.old.pair) (disk_b self.new.pair)) }
-        ensures journal { self.new.pair.journal ≡ self.old.pair.journal }
-        ensures second { self.new.pair.second ≡ self.old.pair.second }
+        ensures current { CurrentStays D.model self.old.pair self.new.pair }
+        ensures goes { PairGoes D.model result self.old.pair self.new.pair }
     {
         laws(&self.pair);
         let Some(copy) = &mut self.copy else {

@@ -5,8 +5,8 @@
 //! state the disks have the history, and the commit in doubt, if any. So a crash leaves every commit that was
 //! acknowledged, and at most one more: the one in doubt, or the one that is being made.
 //!
-//! `compact` copies the store, some items at a time, to the disk that is not read: the states at the version at which it
-//! began, and then the commits made since. A copy that lacks nothing takes the place of the disk that is read.
+//! `compact` copies the store, some items at a time, to the disk that is not read: the states at the version at which
+//! it began, and then the commits made since. A copy that lacks nothing takes the place of the disk that is read.
 //!
 //! `Store::in_memory` makes a store that is never opened again. It keeps no journal, and its copies are written to
 //! nowhere.

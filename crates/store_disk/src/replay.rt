@@ -1,6 +1,6 @@
 //! The entries of a base are put into memory, and the commits of a log are made again behind them, one after the other.
 
-ghost use Rattle.std.specs.Prelude.{◌≡◌, ◌≤◌, ◌⊎◌, [], IfOk, IsErrOf, None, OnErr, OnOk};
+ghost use Rattle.std.specs.Prelude.{◌≡◌, ◌≤◌, ◌⊎◌, [], IfOk, IsErrOf, None, OnOk};
 ghost use Rattle.std.specs.List.{AllByRecursion};
 ghost use Rattle.commit_log.specs.Base.{AreEntries, entries_of};
 ghost use Rattle.commit_log.specs.Change as logged;

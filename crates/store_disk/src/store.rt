@@ -8,6 +8,7 @@ ghost use Rattle.disk_edge.specs.Disk.{Faulted, IfTold, Rose};
 ghost use Rattle.disk_edge.specs.Failures.{bound_of};
 ghost use Rattle.disk_edge.specs.NoDisk as nothing;
 ghost use Rattle.disk_pair.specs.Changed.{changed};
+ghost use Rattle.disk_pair.specs.Loads.{IsOpening};
 ghost use Rattle.disk_pair.specs.Term.{disk_a, disk_b, first_of};
 ghost use Rattle.disk_pair.specs.declared.choice.Which.TheVariants.{First, Second};
 ghost use Rattle.journal_core.specs.Answers.{OnDamaged};
@@ -27,7 +28,7 @@ ghost use Rattle.store_disk.specs.InMemory.{StandsInMemory};
 ghost use Rattle.store_disk.specs.Loads.{Damages, DamagesDisk, OpensTo, a_after, b_after};
 ghost use Rattle.store_disk.specs.OnDisk.{StandsFor};
 ghost use Rattle.store_disk.specs.Faults.{commit_fault};
-ghost use Rattle.store_disk.specs.Replays.{IsLoaded, IsOpening};
+ghost use Rattle.store_disk.specs.Replays.{IsLoaded};
 ghost use Rattle.store_disk.specs.Stored.{Stretches};
 
 use crate::copy::{Copying, queue, reserve};

@@ -1,4 +1,4 @@
-use Rattle.std.proofs.Common.{◌≡◌, Bool, None, Option, Some, false, sym, subst, true}
+use Rattle.std.proofs.Common.{Bool, None, Option, false, sym, subst, true}
 use Rattle.disk_edge.specs.Disk.{IfTold}
 use Rattle.journal_core.specs.LookLaws.{narrows_twice}
 use Rattle.journal_core.specs.Looks.{Narrows}
@@ -7,23 +7,21 @@ use Rattle.disk_pair.specs.Stands.{OtherHas}
 use Rattle.disk_pair.specs.Term.{first_of}
 use Rattle.disk_pair.specs.declared.choice.Which.{Which}
 use Rattle.disk_pair.specs.declared.choice.Which.TheVariants.{First, Second}
-use Rattle.disk_pair.proofs.Openings.{never_closed, other_loses}
+use Rattle.disk_pair.proofs.Openings.{chosen_read, never_closed, other_loses}
 use Rattle.disk_pair.proofs.opening.load.Goals as goal
 
 pub returns-in-Ok-clause-picks : goal.returns-in-Ok-clause-picks
 returns-in-Ok-clause-picks g c l told k told_b =
     let d = g.D.Disk.model in
-    let which : c.in-Ok-Some-First.field-0 ≡ Some First = cc (c.in-Ok-Some-First.field-0-is, c.in-Ok-Some-First.field-0-0-is) in
-    let chosen : IfTold (d.content c.args.a) (λ x. IfTold (d.content c.args.b) (λ y. IsRead false x y)) =
-    λ x told y told_b. subst (λ (w : Option Which). Chosen w x y) which (c.in-Ok-Some-First.ensures.chosen x told y told_b) in
+    let chosen = chosen_read d c.args.a c.args.b c.in-Ok-Some-First.field-0 First
+    (cc (c.in-Ok-Some-First.field-0-is, c.in-Ok-Some-First.field-0-0-is)) c.in-Ok-Some-First.ensures.chosen in
     subst (λ (s : Bool). IsRead s l k) (sym c.in-Ok.ensures.kept.1) (chosen l told k told_b)
 
 pub returns-in-Ok-clause-other : goal.returns-in-Ok-clause-other
 returns-in-Ok-clause-other g c =
     let d = g.D.Disk.model in
-    let which : c.in-Ok-Some-First.field-0 ≡ Some First = cc (c.in-Ok-Some-First.field-0-is, c.in-Ok-Some-First.field-0-0-is) in
-    let chosen : IfTold (d.content c.args.a) (λ x. IfTold (d.content c.args.b) (λ y. IsRead false x y)) =
-    λ x told y told_b. subst (λ (w : Option Which). Chosen w x y) which (c.in-Ok-Some-First.ensures.chosen x told y told_b) in
+    let chosen = chosen_read d c.args.a c.args.b c.in-Ok-Some-First.field-0 First
+    (cc (c.in-Ok-Some-First.field-0-is, c.in-Ok-Some-First.field-0-0-is)) c.in-Ok-Some-First.ensures.chosen in
     let picked = c.in-Ok.picked in
     let generation = picked.journal.header.generation in
     let told = λ (o : g.row.D.Denot) (s : Bool). IfTold (d.content picked.journal.disk) (λ _.
@@ -32,7 +30,7 @@ returns-in-Ok-clause-other g c =
     (subst (λ (o : g.row.D.Denot). told o false) (sym c.in-Ok.ensures.kept.0)
     (other_loses d false c.args.a c.args.b c.which_is_read.new.a c.which_is_read.new.b
     c.which_is_read.ensures.narrows_a c.which_is_read.ensures.narrows_b chosen picked.journal
-    c.in-Ok.ensures.narrows (λ l is. (c.in-Ok.ensures.reads l is).3) c.in-Ok-Some-First.ensures.synced_b))
+    c.in-Ok.ensures.narrows (λ l is. (c.in-Ok.ensures.opening.reads l is).3) c.in-Ok-Some-First.ensures.synced_b))
 
 pub returns-in-Ok-clause-narrows_a : goal.returns-in-Ok-clause-narrows_a
 returns-in-Ok-clause-narrows_a g c =
@@ -46,9 +44,8 @@ returns-in-Ok-clause-narrows_a g c =
 pub returns-in-Err-open_picked-clause-not_a_store : goal.returns-in-Err-open_picked-clause-not_a_store
 returns-in-Err-open_picked-clause-not_a_store g c is l told k told_b =
     let d = g.D.Disk.model in
-    let which : c.in-Ok-Some-First.field-0 ≡ Some First = cc (c.in-Ok-Some-First.field-0-is, c.in-Ok-Some-First.field-0-0-is) in
-    let chosen : IfTold (d.content c.args.a) (λ x. IfTold (d.content c.args.b) (λ y. IsRead false x y)) =
-    λ x told y told_b. subst (λ (w : Option Which). Chosen w x y) which (c.in-Ok-Some-First.ensures.chosen x told y told_b) in
+    let chosen = chosen_read d c.args.a c.args.b c.in-Ok-Some-First.field-0 First
+    (cc (c.in-Ok-Some-First.field-0-is, c.in-Ok-Some-First.field-0-0-is)) c.in-Ok-Some-First.ensures.chosen in
     absurd (never_closed d false c.args.a c.args.b c.which_is_read.new.a c.which_is_read.new.b
     c.which_is_read.ensures.narrows_a c.which_is_read.ensures.narrows_b chosen
     (c.in-Err-open_picked.ensures.not_a_store is) l told k told_b)
@@ -56,17 +53,15 @@ returns-in-Err-open_picked-clause-not_a_store g c is l told k told_b =
 pub returns-in-Ok-open_picked-clause-picks : goal.returns-in-Ok-open_picked-clause-picks
 returns-in-Ok-open_picked-clause-picks g c l told k told_b =
     let d = g.D.Disk.model in
-    let which : c.in-Ok-Some-Second.field-0 ≡ Some Second = cc (c.in-Ok-Some-Second.field-0-is, c.in-Ok-Some-Second.field-0-0-is) in
-    let chosen : IfTold (d.content c.args.a) (λ x. IfTold (d.content c.args.b) (λ y. IsRead true x y)) =
-    λ x told y told_b. subst (λ (w : Option Which). Chosen w x y) which (c.in-Ok-Some-Second.ensures.chosen x told y told_b) in
+    let chosen = chosen_read d c.args.a c.args.b c.in-Ok-Some-Second.field-0 Second
+    (cc (c.in-Ok-Some-Second.field-0-is, c.in-Ok-Some-Second.field-0-0-is)) c.in-Ok-Some-Second.ensures.chosen in
     subst (λ (s : Bool). IsRead s l k) (sym c.in-Ok-open_picked.ensures.kept.1) (chosen l told k told_b)
 
 pub returns-in-Ok-open_picked-clause-other : goal.returns-in-Ok-open_picked-clause-other
 returns-in-Ok-open_picked-clause-other g c =
     let d = g.D.Disk.model in
-    let which : c.in-Ok-Some-Second.field-0 ≡ Some Second = cc (c.in-Ok-Some-Second.field-0-is, c.in-Ok-Some-Second.field-0-0-is) in
-    let chosen : IfTold (d.content c.args.a) (λ x. IfTold (d.content c.args.b) (λ y. IsRead true x y)) =
-    λ x told y told_b. subst (λ (w : Option Which). Chosen w x y) which (c.in-Ok-Some-Second.ensures.chosen x told y told_b) in
+    let chosen = chosen_read d c.args.a c.args.b c.in-Ok-Some-Second.field-0 Second
+    (cc (c.in-Ok-Some-Second.field-0-is, c.in-Ok-Some-Second.field-0-0-is)) c.in-Ok-Some-Second.ensures.chosen in
     let picked = c.in-Ok-open_picked.picked in
     let generation = picked.journal.header.generation in
     let told = λ (o : g.row.D.Denot) (s : Bool). IfTold (d.content picked.journal.disk) (λ _.
@@ -74,8 +69,9 @@ returns-in-Ok-open_picked-clause-other g c =
     subst (λ (s : Bool). told picked.other s) (sym c.in-Ok-open_picked.ensures.kept.1)
     (subst (λ (o : g.row.D.Denot). told o true) (sym c.in-Ok-open_picked.ensures.kept.0)
     (other_loses d true c.args.b c.args.a c.which_is_read.new.b c.which_is_read.new.a
-    c.which_is_read.ensures.narrows_b c.which_is_read.ensures.narrows_a (λ x told y told_a. chosen y told_a x told) picked.journal
-    c.in-Ok-open_picked.ensures.narrows (λ l is. (c.in-Ok-open_picked.ensures.reads l is).3) c.in-Ok-Some-Second.ensures.synced_a))
+    c.which_is_read.ensures.narrows_b c.which_is_read.ensures.narrows_a
+    (λ x told y told_a. chosen y told_a x told) picked.journal c.in-Ok-open_picked.ensures.narrows
+    (λ l is. (c.in-Ok-open_picked.ensures.opening.reads l is).3) c.in-Ok-Some-Second.ensures.synced_a))
 
 pub returns-in-Ok-open_picked-clause-narrows_b : goal.returns-in-Ok-open_picked-clause-narrows_b
 returns-in-Ok-open_picked-clause-narrows_b g c =
@@ -89,9 +85,8 @@ returns-in-Ok-open_picked-clause-narrows_b g c =
 pub returns-in-Err-open_picked-2-clause-not_a_store : goal.returns-in-Err-open_picked-2-clause-not_a_store
 returns-in-Err-open_picked-2-clause-not_a_store g c is l told k told_b =
     let d = g.D.Disk.model in
-    let which : c.in-Ok-Some-Second.field-0 ≡ Some Second = cc (c.in-Ok-Some-Second.field-0-is, c.in-Ok-Some-Second.field-0-0-is) in
-    let chosen : IfTold (d.content c.args.a) (λ x. IfTold (d.content c.args.b) (λ y. IsRead true x y)) =
-    λ x told y told_b. subst (λ (w : Option Which). Chosen w x y) which (c.in-Ok-Some-Second.ensures.chosen x told y told_b) in
+    let chosen = chosen_read d c.args.a c.args.b c.in-Ok-Some-Second.field-0 Second
+    (cc (c.in-Ok-Some-Second.field-0-is, c.in-Ok-Some-Second.field-0-0-is)) c.in-Ok-Some-Second.ensures.chosen in
     absurd (never_closed d true c.args.b c.args.a c.which_is_read.new.b c.which_is_read.new.a
     c.which_is_read.ensures.narrows_b c.which_is_read.ensures.narrows_a (λ x told y told_a. chosen y told_a x told)
     (c.in-Err-open_picked-2.ensures.not_a_store is) k told_b l told)

@@ -8,20 +8,24 @@ returns-in-Ok-clause-moments g c second k finish h l told y m =
 
 pub returns-in-Err-Sure-default-clause-gives : goal.returns-in-Err-Sure-default-clause-gives
 returns-in-Err-Sure-default-clause-gives g c second k finish next h =
+    let said = c.in-Err-Sure-default.ensures in
     refused_start g.D.Disk.model second k finish c.args.disk c.in-Err-Sure-default.disk c.args.doubtful h
-    c.in-Err-Sure-default.ensures.untold c.in-Err-Sure-default.ensures.refused c.in-Err-Sure-default.ensures.no_new
+    said.untold said.refused said.no_new
 
 pub returns-in-Err-Sure-default-clause-moments : goal.returns-in-Err-Sure-default-clause-moments
 returns-in-Err-Sure-default-clause-moments g c second k finish h l told y m =
-    was_idle g.D.Disk.model second k finish c.args.disk c.in-Err-Sure-default.disk c.args.doubtful h
-    c.in-Err-Sure-default.ensures.untold l told y (λ j told_old. c.in-Err-Sure-default.ensures.moments j told_old y m)
+    let said = c.in-Err-Sure-default.ensures in
+    was_idle g.D.Disk.model second k finish c.args.disk c.in-Err-Sure-default.disk c.args.doubtful h said.untold l
+    told y (λ j told_old. said.moments j told_old y m)
 
 pub returns-in-Err-NoMemory-default-clause-gives : goal.returns-in-Err-NoMemory-default-clause-gives
 returns-in-Err-NoMemory-default-clause-gives g c second k finish next h =
+    let said = c.in-Err-NoMemory-default.ensures in
     refused_start g.D.Disk.model second k finish c.args.disk c.in-Err-NoMemory-default.disk c.args.doubtful h
-    c.in-Err-NoMemory-default.ensures.untold c.in-Err-NoMemory-default.ensures.refused c.in-Err-NoMemory-default.ensures.no_new
+    said.untold said.refused said.no_new
 
 pub returns-in-Err-NoMemory-default-clause-moments : goal.returns-in-Err-NoMemory-default-clause-moments
 returns-in-Err-NoMemory-default-clause-moments g c second k finish h l told y m =
-    was_idle g.D.Disk.model second k finish c.args.disk c.in-Err-NoMemory-default.disk c.args.doubtful h
-    c.in-Err-NoMemory-default.ensures.untold l told y (λ j told_old. c.in-Err-NoMemory-default.ensures.moments j told_old y m)
+    let said = c.in-Err-NoMemory-default.ensures in
+    was_idle g.D.Disk.model second k finish c.args.disk c.in-Err-NoMemory-default.disk c.args.doubtful h said.untold l
+    told y (λ j told_old. said.moments j told_old y m)

@@ -16,13 +16,9 @@ loop-preserved g c =
     let e = c.in-Ok.ensures in
     let item : Item g.D.Disk.model c.loop.self c.put_item.new.self (Ok tt) = record {
       gives = e.gives;
-      moments = e.moments;
       memory = e.memory;
-      a = e.a;
-      b = e.b;
-      cause = tt;
-      journal = e.journal;
-      second = e.second;
+      current = e.current;
+      goes = e.goes;
     } in
     next g.D.Disk.model g.met.D.Disk.parts c.args.items c.args.self.now c.loop.self c.put_item.new.self c.loop.counter
     c.loop.invariant (Ok tt) item e.gives e.left
@@ -32,13 +28,9 @@ returns-in-Err-clause-call g c =
     let e = c.in-Err.ensures in
     let item : Item g.D.Disk.model c.loop.self c.put_item.new.self (Err c.in-Err.fault) = record {
       gives = e.gives;
-      moments = e.moments;
       memory = e.memory;
-      a = e.a;
-      b = e.b;
-      cause = e.cause;
-      journal = e.journal;
-      second = e.second;
+      current = e.current;
+      goes = e.goes;
     } in
     rw c.copy_fault.ensures
     (λ s h. stopped g.D.Disk.model g.met.D.Disk.parts c.args.items c.args.self.now c.loop.self c.put_item.new.self
@@ -51,17 +43,17 @@ returns-in-Err-clause-memory g c = c.in-Err.ensures.memory ∙ c.loop.invariant.
 pub returns-in-Err-clause-a : goal.returns-in-Err-clause-a
 returns-in-Err-clause-a g c =
     goes-twice g.D.Disk.model (disk_a c.args.self.now.pair) (disk_a c.loop.self.pair) (disk_a c.put_item.new.self.pair)
-    c.loop.invariant.a c.in-Err.ensures.a
+    c.loop.invariant.a c.in-Err.ensures.goes.a
 
 pub returns-in-Err-clause-b : goal.returns-in-Err-clause-b
 returns-in-Err-clause-b g c =
     goes-twice g.D.Disk.model (disk_b c.args.self.now.pair) (disk_b c.loop.self.pair) (disk_b c.put_item.new.self.pair)
-    c.loop.invariant.b c.in-Err.ensures.b
+    c.loop.invariant.b c.in-Err.ensures.goes.b
 
 pub returns-clause-call : goal.returns-clause-call
 returns-clause-call g c = λ s h.
-    went-on g.D.Disk.model c.runs_stay_sound.ensures c.rebases_keep.ensures.heads c.args.items c.args.self.now c.loop.self
-    c.loop.counter c.loop.invariant s h c.requires.left c.requires.some
+    went-on g.D.Disk.model c.runs_stay_sound.ensures c.rebases_keep.ensures.heads c.args.items c.args.self.now
+    c.loop.self c.loop.counter c.loop.invariant s h c.requires.left c.requires.some
     (omega (arith, c.loop-test.false, c.min-step.ensures, c.requires.some)) _
     (omega (arith, c.loop-test.false, c.loop.auto.counter-end, c.min-step.ensures))
     (omega (arith, c.loop-test.false, c.loop.auto.counter-end, c.min-step.ensures))

@@ -11,8 +11,8 @@ pub invariant_of-self : goal.invariant_of-self
 invariant_of-self g c =
     ready-after c.laws.ensures.serve (Fetch c.args.pin.now.slot c.args.want.now c.args.from c.args.limit)
     (λ last. Page (founds c.fetch.new.page.records) last)
-    c.fetch.result tt c.fetch.ensures.worn.1 c.self.inside.memory c.fetch.new.self c.self.inside.pair _ c.fetch.ensures.call
-    c.self.invariant
+    c.fetch.result tt c.fetch.ensures.worn.1 c.self.inside.memory c.fetch.new.self c.self.inside.pair _
+    c.fetch.ensures.call c.self.invariant
 
 pub returns-clause-call : goal.returns-clause-call
 returns-clause-call g c =

@@ -7,8 +7,8 @@ use Rattle.store_disk.proofs.store.StoreService.stats.Goals as goal
 pub invariant_of-self : goal.invariant_of-self
 invariant_of-self g c =
     ready-after c.laws.ensures.serve Stats (λ n. Counted n.version n.live n.withdrawn n.kept n.pins)
-    c.stats.result tt c.stats.ensures.worn.1 c.self.inside.memory c.stats.new.self c.self.inside.pair _ c.stats.ensures.call
-    c.self.invariant
+    c.stats.result tt c.stats.ensures.worn.1 c.self.inside.memory c.stats.new.self c.self.inside.pair _
+    c.stats.ensures.call c.self.invariant
 
 pub returns-clause-call : goal.returns-clause-call
 returns-clause-call g c =

@@ -7,8 +7,8 @@ use Rattle.store_disk.proofs.store.StoreService.unpin.Goals as goal
 pub invariant_of-self : goal.invariant_of-self
 invariant_of-self g c =
     ready-after c.laws.ensures.serve (Unpin c.args.pin.slot) (λ _. Unpinned)
-    c.unpin.result tt c.unpin.ensures.worn.1 c.self.inside.memory c.unpin.new.self c.self.inside.pair _ c.unpin.ensures.call
-    c.self.invariant
+    c.unpin.result tt c.unpin.ensures.worn.1 c.self.inside.memory c.unpin.new.self c.self.inside.pair _
+    c.unpin.ensures.call c.self.invariant
 
 pub returns-clause-call : goal.returns-clause-call
 returns-clause-call g c =
