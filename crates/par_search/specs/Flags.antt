@@ -1,4 +1,5 @@
--- Flags of records: whether a pattern matches each, in order; the pieces into which records are cut; the room of workers.
+-- Flags of records: whether a pattern matches each, in order; the pieces into which records are cut; and the room that
+-- workers have.
 use Rattle.std.specs.Prelude.{◌≡◌, ◌*◌, ◌↔◌, Bool, List, [], ◌∷◌, Some, drop, length, map, slice_get, take, true, ℕ}
 use Rattle.std.specs.Arc.{arc_value}
 use Rattle.std.specs.Int.{div_ceil}
