@@ -101,7 +101,13 @@ pub fn similar<S: Service>(
         Err(fault) => return say(&refuse_text(fault), out),
     };
     record_is_sound(&record);
-    match find_similar(cursors.alloc, service, asked, &record, cursors.settings.page) {
+    match find_similar(
+        cursors.alloc,
+        service,
+        asked,
+        &record,
+        cursors.settings.page,
+    ) {
         Ok(list) => say_similar(&list, out),
         Err(fault) => say_given(fault_line(fault), out),
     }

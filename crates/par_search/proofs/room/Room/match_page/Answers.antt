@@ -19,6 +19,7 @@ returns-clause-room g c =
     let new = c.match_pieces.new.workers in
     let len : length new ≡ old.len = omega (arith, c.match_pieces.auto.workers, c.deref_mut.ensures.len) in
     let is = with_items_is old new len in
-    kept-room c.args.self.now _ c.requires.room refl refl refl c.list_hits.ensures.capacity
-    (ap rooms is ∙ (c.match_pieces.ensures.same.0 ∙ ap rooms c.deref_mut.ensures.value),
-    ap shares is ∙ (c.match_pieces.ensures.same.1 ∙ ap shares c.deref_mut.ensures.value))
+    kept-room c.args.self.now _ c.requires.room refl refl refl c.list_hits.ensures.capacity (
+      ap rooms is ∙ (c.match_pieces.ensures.same.0 ∙ ap rooms c.deref_mut.ensures.value),
+      ap shares is ∙ (c.match_pieces.ensures.same.1 ∙ ap shares c.deref_mut.ensures.value),
+    )

@@ -15,6 +15,7 @@ returns-clause-room g c =
     kept-room self _ c.requires.room refl refl
     (ap page_rooms (with_items_is self.batch pages number) ∙ (c.search.ensures.fetched.room
     ∙ ap page_rooms c.deref_mut.ensures.value))
-    c.search.ensures.matched.capacity
-    (ap rooms is ∙ (c.search.ensures.matched.workers.0 ∙ ap rooms c.deref_mut-2.ensures.value),
-    ap shares is ∙ (c.search.ensures.matched.workers.1 ∙ ap shares c.deref_mut-2.ensures.value))
+    c.search.ensures.matched.capacity (
+      ap rooms is ∙ (c.search.ensures.matched.workers.0 ∙ ap rooms c.deref_mut-2.ensures.value),
+      ap shares is ∙ (c.search.ensures.matched.workers.1 ∙ ap shares c.deref_mut-2.ensures.value),
+    )
