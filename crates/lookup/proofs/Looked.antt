@@ -4,7 +4,7 @@ use Rattle.par_search.specs.Faults.{fault_of}
 use Rattle.par_search.specs.declared.fault.SearchFault.{SearchFault}
 use Rattle.par_search.specs.declared.fault.SearchFault.TheVariants as faults
 use Rattle.snap_registry.specs.declared.Pin.{Pin}
-use Rattle.store_core.specs.Calls.{NeedsNone, SameHeld}
+use Rattle.store_core.specs.Calls.{NeedsNone, NotRaised, SameHeld}
 use Rattle.store_core.specs.Replies.{pin_calls, unpin_calls}
 use Rattle.store_core.specs.declared.service.Service as meaning
 use Rattle.store_core.specs.declared.words.CallFault.{CallFault}
@@ -144,6 +144,18 @@ pub any-walked : {S : Type 0} (of : meaning.Ghosts S) (mid then : S) (slot size 
 any-walked of mid then slot size want Gives (Ok n) w = (End, w.0)
 any-walked of mid then slot size want Gives (Err call.NoMemory) w = (w.0, w.1)
 any-walked of mid then slot size want Gives (Err call.Worn) w = (w.0, w.1)
+
+-- what a pin's clauses say
+pub pinned_from : {S : Type 0} (of : meaning.Ghosts S) (old mid : S) (p : Pin)
+    → Makes of old mid (pin_calls (Ok (Some p))) → HeldBesides (of.holds old) p.slot p.version (of.holds mid)
+    → ((slot version other : ℕ) → (slot ≡ p.slot) × (version ≡ p.version) → of.holds old slot other → ⊥)
+    → NotRaised (of.bounds old) (of.bounds mid) → IsPinnedFrom of old mid p
+pinned_from of old mid p made held apart bounds = record {
+  made = made;
+  held = held;
+  free = λ other. apart p.slot p.version other (refl, refl);
+  bounds = bounds;
+}
 
 -- what is wanted, by another name
 pub looks-want : {S X : Type 0} {of : meaning.Ghosts S} {old new : S} {size : ℕ} {Is : ℕ → List Found → X → Type 0}

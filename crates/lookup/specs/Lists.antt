@@ -4,7 +4,6 @@ use Rattle.std.specs.List.Sorted.{IsStrictlyIncreasing}
 use Rattle.chem_core.specs.Molecule.{Molecule}
 use Rattle.lookup.specs.Asked.{ArePicked, AreScored, IsSameAs}
 use Rattle.lookup.specs.declared.hits.HitList.{HitList}
-use Rattle.lookup.specs.declared.same.SameList.{SameList}
 use Rattle.lookup.specs.declared.similar.SimilarList.{SimilarList}
 use Rattle.similar_find.specs.Board.{AreOffers, IsBest, Offer}
 use Rattle.smarts_parse.specs.Pattern.{PatternTerm}
@@ -12,7 +11,7 @@ use Rattle.store_machine.specs.Answers.{AreMatched}
 use Rattle.store_machine.specs.declared.machine.Found.{Found}
 
 -- the version, how many records there were, and which of them are the same structure
-pub record IsSameList (m : Molecule) (version : ℕ) (records : List Found) (list : SameList) : Type 0 where
+pub record IsSameList (m : Molecule) (version : ℕ) (records : List Found) (list : HitList) : Type 0 where
   pub version_is : list.version ≡ version
   pub tried : list.tried ≡ length records
   pub hits : ArePicked (IsSameAs m) records list.hits.items

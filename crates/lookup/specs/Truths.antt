@@ -6,7 +6,7 @@ use Rattle.chem_core.specs.Molecule.{IsMolecule, Molecule}
 use Rattle.lookup.specs.Asked.{IsEmptyPrint, IsSameAs, IsScored}
 use Rattle.lookup.specs.Fetches.{AreFetches, Calls, lookup_calls}
 use Rattle.lookup.specs.Lists.{IsSameList, IsSimilarList}
-use Rattle.lookup.specs.declared.same.SameList.{SameList}
+use Rattle.lookup.specs.declared.hits.HitList.{HitList}
 use Rattle.lookup.specs.declared.similar.SimilarList.{SimilarList}
 use Rattle.mol_finish.specs.Structure.{IsStructureOf}
 use Rattle.mol_finish.specs.declared.fault.Format.{Format}
@@ -25,7 +25,7 @@ use Rattle.store_machine.specs.declared.machine.Step.{Step}
 
 -- The hits are the identifiers that are the same structure at the list's version of the history, each once, ascending;
 -- and so many were tried as have the print in theirs
-pub record AreAllSame (h : History) (m : Molecule) (print : List Bool) (list : SameList) : Type 0 where
+pub record AreAllSame (h : History) (m : Molecule) (print : List Bool) (list : HitList) : Type 0 where
   pub are : AreAnswers (IsSameAs m) h list.version list.hits.items
   pub screened : List ℕ
   pub all : AreTried h list.version print screened
@@ -71,7 +71,7 @@ pub record InRun (s t : State) (size : ℕ) (want : List Bool) (slot version : �
 -- what is listed as the same by the pages of a structure's print is the same by the history, and all that is
 abbrev pub SamesAreAnswers : Type 0
 SamesAreAnswers =
-    (s t : State) (size slot version : ℕ) (pages : Calls) (m : Molecule) (print : List Bool) (list : SameList)
+    (s t : State) (size slot version : ℕ) (pages : Calls) (m : Molecule) (print : List Bool) (list : HitList)
     → InRun s t size print slot version pages → IsMolecule m → IsPrintOf m print
     → IsSameList m version (records_of (fetched slot pages)) list → AreAllSame t.history m print list
 

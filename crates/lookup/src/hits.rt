@@ -19,8 +19,8 @@ use smarts_parse::Pattern;
 use std::alloc::{AllocError, Global};
 use store_core::{Record, Service};
 
-/// The hits of a pattern, ascending, at a version, and how many had to be looked at: those whose print holds what the
-/// pattern needs.
+/// Identifiers that were looked for, ascending, at a version, and how many had to be looked at: those whose print holds
+/// what was needed.
 #[derive(Debug, Drop)]
 pub struct HitList {
     pub version: u32,

@@ -16,5 +16,5 @@ pub use law::{
     same_have_equal_prints, sames_are_answers, similars_are_answers, structures_have_bits,
 };
 pub use par_search::SearchFault;
-pub use same::{SameList, find_same};
-pub use similar::{SimilarList, find_similar};
+pub use same::find_same;
+pub use similar::{SimilarList, Similarity, find_similar};

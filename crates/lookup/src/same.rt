@@ -5,6 +5,7 @@ ghost use Rattle.store_core.specs.declared.page.TheConstants.{MOST_RECORDS};
 ghost use Rattle.lookup.specs.Fetches.{Looks};
 ghost use Rattle.lookup.specs.Lists.{IsSameList};
 
+use crate::hits::HitList;
 use crate::pages::{Visit, see_head};
 use chem_core::Mol;
 use exact_find::{Key, SameScratch, key_of, same, same_have_equal_keys};
@@ -13,15 +14,6 @@ use par_search::SearchFault;
 use std::alloc::{AllocError, Global};
 use store_core::{Record, Service};
 
-/// The identifiers that are the same structure as a given one, ascending, at a version, and how many had to be looked
-/// at: those whose print holds the given one's.
-#[derive(Debug, Drop)]
-pub struct SameList {
-    pub version: u32,
-    pub tried: u32,
-    pub hits: Vec<u32>,
-}
-
 /// Lists what is the same structure as that of a record, by pages of 1 to 256 records: a pin, fetches of all whose
 /// print holds the record's, and the pin is given back. On want of memory it is given back too.
 pub fn find_same<S: Service>(
@@ -29,7 +21,7 @@ pub fn find_same<S: Service>(
     service: &mut S,
     given: &Record,
     page_size: u32,
-) -> Result<SameList, SearchFault>
+) -> Result<HitList, SearchFault>
     requires some { 1 ≤ page_size }
     requires few { page_size ≤ MOST_RECORDS }
     ensures looks { Looks S.Service service.old service.new page_size given.now.print
@@ -38,7 +30,7 @@ pub fn find_same<S: Service>(
 {
     let mut sames = Sames::of(alloc, given)?;
     let seen = see_head(alloc, service, given, given.print(), page_size, &mut sames)?;
-    Ok(SameList {
+    Ok(HitList {
         version: seen.version,
         tried: seen.count,
         hits: sames.hits,

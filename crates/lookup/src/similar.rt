@@ -14,6 +14,15 @@ use similar_find::{Best, most_alike, score};
 use std::alloc::{AllocError, Global};
 use store_core::{Record, Service};
 
+/// Which similar structures are asked for: at most `k`, 1 to 256, that have at least `p / q` of the bits in common, `q` 1
+/// to 1000 and `p` at most `q`.
+#[derive(Clone, Copy, Debug, PartialEq, Eq)]
+pub struct Similarity {
+    pub p: u32,
+    pub q: u32,
+    pub k: u32,
+}
+
 /// The identifiers that are most similar to a given structure, the best first, at a version, and how many were
 /// compared: all that are live.
 #[derive(Debug, Drop)]
@@ -23,31 +32,28 @@ pub struct SimilarList {
     pub best: Best,
 }
 
-/// Lists what is most similar to the structure of a record, by pages of 1 to 256 records: at most `k` hits, 1 to 256,
-/// that have at least `p / q` of the bits in common, `q` 1 to 1000 and `p` at most `q`. A pin, fetches of all that is
+/// Lists what is most similar to the structure of a record, by pages of 1 to 256 records: a pin, fetches of all that is
 /// live, and the pin is given back. On want of memory it is given back too.
 pub fn find_similar<S: Service>(
     alloc: Global,
     service: &mut S,
-    p: u32,
-    q: u32,
-    k: u32,
+    asked: Similarity,
     given: &Record,
     page_size: u32,
 ) -> Result<SimilarList, SearchFault>
-    requires whole { (1 ≤ q) × (q ≤ 1000) }
-    requires part { p ≤ q }
-    requires hits { (1 ≤ k) × (k ≤ MOST_HITS) }
+    requires whole { (1 ≤ asked.q) × (asked.q ≤ 1000) }
+    requires part { asked.p ≤ asked.q }
+    requires hits { (1 ≤ asked.k) × (asked.k ≤ MOST_HITS) }
     requires some { 1 ≤ page_size }
     requires few { page_size ≤ MOST_RECORDS }
     ensures looks { (want : List Bool) × IsEmptyPrint want
         × Looks S.Service service.old service.new page_size want
-        (IsSimilarList p q k given.now.print) result }
+        (IsSimilarList asked.p asked.q asked.k given.now.print) result }
     ensures bounds { NotRaised (S.bounds service.old) (S.bounds service.new) }
 {
     let want = Print::empty();
     let mut likes = Likes {
-        best: Best::reserve(alloc, p, q, k)?,
+        best: Best::reserve(alloc, asked.p, asked.q, asked.k)?,
     };
     let seen = see_head(alloc, service, given, &want, page_size, &mut likes)?;
     Ok(SimilarList {

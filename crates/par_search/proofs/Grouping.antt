@@ -23,7 +23,7 @@ use Rattle.par_search.specs.declared.worker.TheConstants.{MOST_RECORDS}
 use Rattle.par_search.proofs.Held.{held-more, not_raised-more}
 use Rattle.par_search.proofs.Joining.{founds_in, founds_in-append, joined-few}
 use Rattle.par_search.proofs.Paged.{fetched-append, fetches-append, pages-append, records-append}
-use Rattle.par_search.proofs.Rooming.{kept, page_rooms, rooms-between, same-length, shares-fit}
+use Rattle.par_search.proofs.Rooming.{kept, page_rooms, parts-fit, rooms-between, same-length}
 use Rattle.par_search.proofs.Small.{few-taken, small-append}
 
 -- calls behind pages are answered as they are alone
@@ -174,8 +174,7 @@ matched-more {p = p} {zs = zs} pages start end le first next = record {
       ∙ ap (λ l. before ++ l) (sym (founds_in-append (take start pages) (drop start (take end pages)))
       ∙ ap founds_in (up-to start end pages le)))
       (next.matched (before ++ founds_in (take start pages)) (first.matched before m));
-  pieces = next.pieces ∙ first.pieces;
-  share = next.share ∙ first.share;
+  workers = (next.workers.0 ∙ first.workers.0, next.workers.1 ∙ first.workers.1);
   capacity = next.capacity ∙ first.capacity;
 }
 
@@ -187,7 +186,7 @@ pub can-match : {p : PatternTerm} {ws vs : List WorkerTerm} {hits : List ℕ} {c
     → CanMatch p (drop start (take end pages)) n vs hits d
 can-match {p} {ws} {vs} {hits} old pages start end n can same done le small total =
     let number = same-length (λ (q : PageTerm). q.room) old pages same in
-    let workers = same-length (λ (w : WorkerTerm). w.room) ws vs done.pieces in
+    let workers = same-length (λ (w : WorkerTerm). w.room) ws vs done.workers.0 in
     let few = few-taken end pages small in
     let found = joined-few p (records_in (take start pages)) hits (done.matched [] refl) in
     let sum : length (records_in (take start pages)) + n ≡ length (records_in (take end pages)) =
@@ -205,8 +204,8 @@ can-match {p} {ws} {vs} {hits} old pages start end n can same done le small tota
       some = omega (arith, can.some, workers);
       few = omega (arith, can.few, workers);
       share = subst (λ k. All (λ (w : WorkerTerm). div_ceil n k ≤ w.share) vs) (sym workers)
-          (kept (λ (w : WorkerTerm). w.share) (div_ceil n (length ws)) ws vs done.share
-          (shares-fit n (length old * MOST_RECORDS) ws ws refl can.some most can.share));
+          (kept (λ (w : WorkerTerm). w.share) (div_ceil n (length ws)) ws vs done.workers.1
+          (parts-fit (λ w. w.share) n (length old * MOST_RECORDS) ws ws refl can.some most can.share));
       hits = omega (arith, found, sum, few, number, can.hits, done.capacity);
       sound = can.sound;
     }

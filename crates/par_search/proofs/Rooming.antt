@@ -3,17 +3,11 @@ use Rattle.std.proofs.Common.{◌≡◌, ◌*◌, ◌++◌, ◌<◌, ◌≤◌, 
 use Rattle.std.proofs.lemmas.List.{get_or-map, length-map, map-append}
 use Rattle.std.specs.Int.{div_ceil}
 use Rattle.store_core.specs.Records.{PageTerm}
-use Rattle.par_search.specs.Flags.{WorkerTerm}
+use Rattle.par_search.specs.Flags.{HaveSameRoom, WorkerTerm}
 use Rattle.par_search.specs.Rooms.{IsRoom, SameRoom}
 use Rattle.par_search.specs.declared.room.Room.{Room}
 use Rattle.par_search.specs.declared.worker.TheConstants.{MOST_RECORDS}
 use Rattle.par_search.proofs.Shares.{share-grows}
-
-abbrev pub rooms : List WorkerTerm → List ℕ
-rooms ws = map {B = ℕ} (λ w. w.room) ws
-
-abbrev pub shares : List WorkerTerm → List ℕ
-shares ws = map {B = ℕ} (λ w. w.share) ws
 
 abbrev pub page_rooms : List PageTerm → List ℕ
 page_rooms ps = map {B = ℕ} (λ p. p.room) ps
@@ -36,29 +30,20 @@ rooms-set [] i p d less e = absurd (omega (arith, less))
 rooms-set (x ∷ xs) zero p d less e = ap (λ n. n ∷ page_rooms xs) e
 rooms-set (x ∷ xs) (suc i) p d less e = ap (λ l. x.room ∷ l) (rooms-set xs i p d (omega (arith, less)) e)
 
--- room for pieces of a page is room for pieces of fewer records
-pub pieces-fit : (n size : ℕ) (ws vs : List WorkerTerm) → vs ≡ ws → 1 ≤ length ws → n ≤ size
-    → All (λ (w : WorkerTerm). div_ceil size (length ws) ≤ w.room) ws
-    → All (λ (w : WorkerTerm). div_ceil n (length vs) ≤ w.room) vs
-pieces-fit n size ws vs e some le all =
-    subst (λ (l : List WorkerTerm). All (λ (w : WorkerTerm). div_ceil n (length l) ≤ w.room) l) (sym e)
-    (λ i d less. let grows = share-grows n size (length ws) some le in omega (arith, grows, all i d less))
-
--- room for shares of a full batch is room for shares of fewer records
-pub shares-fit : (n most : ℕ) (ws vs : List WorkerTerm) → vs ≡ ws → 1 ≤ length ws → n ≤ most
-    → All (λ (w : WorkerTerm). div_ceil most (length ws) ≤ w.share) ws
-    → All (λ (w : WorkerTerm). div_ceil n (length vs) ≤ w.share) vs
-shares-fit n most ws vs e some le all =
-    subst (λ (l : List WorkerTerm). All (λ (w : WorkerTerm). div_ceil n (length l) ≤ w.share) l) (sym e)
+-- room for equal parts of many records, of a page or of a full batch, is room for those of fewer
+pub parts-fit : (room : WorkerTerm → ℕ) (n most : ℕ) (ws vs : List WorkerTerm) → vs ≡ ws → 1 ≤ length ws → n ≤ most
+    → All (λ (w : WorkerTerm). div_ceil most (length ws) ≤ room w) ws
+    → All (λ (w : WorkerTerm). div_ceil n (length vs) ≤ room w) vs
+parts-fit room n most ws vs e some le all =
+    subst (λ (l : List WorkerTerm). All (λ (w : WorkerTerm). div_ceil n (length l) ≤ room w) l) (sym e)
     (λ i d less. let grows = share-grows n most (length ws) some le in omega (arith, grows, all i d less))
 
 pub kept-room : (old new : Room) → IsRoom old → new.size ≡ old.size → old.page.room ≡ new.page.room
     → page_rooms new.batch.items ≡ page_rooms old.batch.items
     → vec_capacity new.hits ≡ vec_capacity old.hits
-    → rooms new.workers.items ≡ rooms old.workers.items → shares new.workers.items ≡ shares old.workers.items
-    → SameRoom old new
-kept-room old new h size page batch hits workers share =
-    let n = same-length (λ (w : WorkerTerm). w.room) old.workers.items new.workers.items workers in
+    → HaveSameRoom old.workers.items new.workers.items → SameRoom old new
+kept-room old new h size page batch hits workers =
+    let n = same-length (λ (w : WorkerTerm). w.room) old.workers.items new.workers.items workers.0 in
     let m = same-length (λ (p : PageTerm). p.room) old.batch.items new.batch.items batch in
     record {
       size = size;
@@ -79,14 +64,14 @@ kept-room old new h size page batch hits workers share =
             subst (λ k. All (λ (w : WorkerTerm). div_ceil new.size k ≤ w.room) new.workers.items) (sym n)
             (subst (λ s. All (λ (w : WorkerTerm). div_ceil s (length old.workers.items) ≤ w.room) new.workers.items)
             (sym size) (kept (λ (w : WorkerTerm). w.room) (div_ceil old.size (length old.workers.items))
-            old.workers.items new.workers.items workers h.workers));
+            old.workers.items new.workers.items workers.0 h.workers));
         shares =
             subst (λ k. All (λ (w : WorkerTerm). div_ceil (length new.batch.items * MOST_RECORDS) k ≤ w.share)
             new.workers.items) (sym n)
             (subst (λ b. All (λ (w : WorkerTerm). div_ceil (b * MOST_RECORDS) (length old.workers.items) ≤ w.share)
             new.workers.items) (sym m) (kept (λ (w : WorkerTerm). w.share)
             (div_ceil (length old.batch.items * MOST_RECORDS) (length old.workers.items))
-            old.workers.items new.workers.items share h.shares));
+            old.workers.items new.workers.items workers.1 h.shares));
       };
     }
 

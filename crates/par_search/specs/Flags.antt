@@ -1,5 +1,6 @@
--- Flags of records: whether a pattern matches each, in order; and the pieces into which records are cut.
-use Rattle.std.specs.Prelude.{◌≡◌, ◌*◌, ◌↔◌, Bool, List, [], ◌∷◌, Some, drop, length, slice_get, take, true, ℕ}
+-- Flags of records: whether a pattern matches each, in order; the pieces into which records are cut; and the room that
+-- workers have.
+use Rattle.std.specs.Prelude.{◌≡◌, ◌*◌, ◌↔◌, Bool, List, [], ◌∷◌, Some, drop, length, map, slice_get, take, true, ℕ}
 use Rattle.std.specs.Arc.{arc_value}
 use Rattle.std.specs.Int.{div_ceil}
 use Rattle.smarts_parse.specs.Embedding.{Matches}
@@ -12,6 +13,20 @@ pub record WorkerTerm : Type 0 where
   pub room : ℕ
   pub hits : List ℕ
   pub share : ℕ
+
+-- for how many flags, and for how many hits, each worker has room
+abbrev pub rooms : List WorkerTerm → List ℕ
+rooms workers = map (λ w. w.room) workers
+
+abbrev pub shares : List WorkerTerm → List ℕ
+shares workers = map (λ w. w.share) workers
+
+-- as much room as before, of one worker and of each of them
+abbrev pub HasSameRoom : WorkerTerm → WorkerTerm → Type 0
+HasSameRoom old new = (new.room ≡ old.room) × (new.share ≡ old.share)
+
+abbrev pub HaveSameRoom : List WorkerTerm → List WorkerTerm → Type 0
+HaveSameRoom old new = (rooms new ≡ rooms old) × (shares new ≡ shares old)
 
 -- for each record, in order, whether the pattern matches it
 abbrev pub AreFlags : PatternTerm → List Shared → List Bool → Type 0

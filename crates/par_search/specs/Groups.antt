@@ -1,12 +1,12 @@
 -- For private clauses alone: groups of pages, of which one is matched while the next is fetched.
-use Rattle.std.specs.Prelude.{◌≡◌, ◌≢◌, ◌≤◌, ◌+◌, ◌*◌, ◌++◌, All, List, None, length, map, ℕ}
+use Rattle.std.specs.Prelude.{◌≡◌, ◌≢◌, ◌≤◌, ◌+◌, ◌*◌, ◌++◌, All, List, None, length, ℕ}
 use Rattle.std.specs.Int.{div_ceil}
 use Rattle.smarts_parse.specs.Pattern.{PatternTerm}
 use Rattle.smarts_parse.specs.Sound.{IsSoundPattern}
 use Rattle.store_core.specs.Records.{PageTerm, founds}
 use Rattle.store_machine.specs.Answers.{AreMatched}
 use Rattle.store_machine.specs.declared.machine.Found.{Found}
-use Rattle.par_search.specs.Flags.{WorkerTerm}
+use Rattle.par_search.specs.Flags.{HaveSameRoom, WorkerTerm}
 use Rattle.par_search.specs.Shares.{records_in}
 use Rattle.par_search.specs.declared.batch.Fetched.{Fetched}
 use Rattle.par_search.specs.declared.pieces.TheConstants.{MOST_WORKERS}
@@ -46,6 +46,5 @@ pub record HasMatched (pattern : PatternTerm) (pages : List PageTerm) (old new :
     (found found' : List ℕ) (room room' : ℕ) : Type 0 where
   pub matched : (before : List Found) → AreMatched pattern before found
       → AreMatched pattern (before ++ founds (records_in pages)) found'
-  pub pieces : map {B = ℕ} (λ w. w.room) new ≡ map {B = ℕ} (λ w. w.room) old
-  pub share : map {B = ℕ} (λ w. w.share) new ≡ map {B = ℕ} (λ w. w.share) old
+  pub workers : HaveSameRoom old new
   pub capacity : room' ≡ room

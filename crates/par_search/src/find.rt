@@ -1,12 +1,12 @@
 //! The shares of pages that are searched together, each by its worker: records one behind the other, from one page or
 //! from several.
-ghost use Rattle.std.specs.Prelude.{◌≡◌, ◌≤◌, ◌<◌, ◌+◌, ◌++◌, All, length, map, vec_capacity, ℕ};
+ghost use Rattle.std.specs.Prelude.{◌≡◌, ◌≤◌, ◌<◌, ◌+◌, ◌++◌, All, length, vec_capacity};
 ghost use Rattle.std.specs.Int.{div_ceil};
 ghost use Rattle.smarts_parse.specs.Pattern.{pattern_of};
 ghost use Rattle.smarts_parse.specs.Sound.{IsSoundPattern};
 ghost use Rattle.store_machine.specs.Answers.{AreMatched};
 ghost use Rattle.store_core.specs.Records.{founds};
-ghost use Rattle.par_search.specs.Flags.{WorkerTerm, piece_of};
+ghost use Rattle.par_search.specs.Flags.{HasSameRoom, HaveSameRoom, WorkerTerm, piece_of};
 ghost use Rattle.par_search.specs.Groups.{CanMatch, HasMatched};
 ghost use Rattle.par_search.specs.Shares.{AreFoundFrom, hits_in, records_in};
 ghost use Rattle.par_search.specs.declared.pieces.TheConstants.{MOST_WORKERS};
@@ -98,8 +98,7 @@ impl<M: Meter> Shares<'_, M> {
         requires other { G.pre other.old }
         ensures found { AreFoundFrom (pattern_of self.now.pattern.now) self.now.size number
             (records_in self.now.pages.now) workers.new }
-        ensures room { map {B = ℕ} (λ w. w.room) workers.new ≡ map {B = ℕ} (λ w. w.room) workers.old }
-        ensures share { map {B = ℕ} (λ w. w.share) workers.new ≡ map {B = ℕ} (λ w. w.share) workers.old }
+        ensures same { HaveSameRoom workers.old workers.new }
         ensures other { G.step other.old result other.new }
     {
         let Some((worker, rest)) = workers.split_first_mut() else {
@@ -136,11 +135,10 @@ impl<M: Meter> Shares<'_, M> {
         requires other { G.pre other.old }
         ensures found { AreMatched (pattern_of self.now.pattern.now)
             (founds (piece_of self.now.size number (records_in self.now.pages.now))) worker.new.hits }
-        ensures same { (worker.new.room ≡ worker.old.room) × (worker.new.share ≡ worker.old.share) }
+        ensures same { HasSameRoom worker.old worker.new }
         ensures rest { AreFoundFrom (pattern_of self.now.pattern.now) self.now.size (number + 1)
             (records_in self.now.pages.now) rest.new }
-        ensures room { map {B = ℕ} (λ w. w.room) rest.new ≡ map {B = ℕ} (λ w. w.room) rest.old }
-        ensures share { map {B = ℕ} (λ w. w.share) rest.new ≡ map {B = ℕ} (λ w. w.share) rest.old }
+        ensures rest_same { HaveSameRoom rest.old rest.new }
         ensures other { G.step other.old result other.new }
     {
         let mut share = ||
@@ -150,8 +148,7 @@ impl<M: Meter> Shares<'_, M> {
             ensures found { AreMatched (pattern_of self.entry.now.pattern.now)
                 (founds (piece_of self.entry.now.size number (records_in self.entry.now.pages.now)))
                 worker.exit.now.hits }
-            ensures room { worker.exit.now.room ≡ worker.entry.now.room }
-            ensures share { worker.exit.now.share ≡ worker.entry.now.share }
+            ensures same { HasSameRoom worker.entry.now worker.exit.now }
         { self.find(number, worker) };
         let mut behind = || -> B
             requires few { number + 1 + length rest.now ≤ MOST_WORKERS }
@@ -160,8 +157,7 @@ impl<M: Meter> Shares<'_, M> {
             requires other { G.pre other.now }
             ensures found { AreFoundFrom (pattern_of self.entry.now.pattern.now) self.entry.now.size (number + 1)
                 (records_in self.entry.now.pages.now) rest.exit.now }
-            ensures room { map {B = ℕ} (λ w. w.room) rest.exit.now ≡ map {B = ℕ} (λ w. w.room) rest.entry.now }
-            ensures share { map {B = ℕ} (λ w. w.share) rest.exit.now ≡ map {B = ℕ} (λ w. w.share) rest.entry.now }
+            ensures same { HaveSameRoom rest.entry.now rest.exit.now }
             ensures other { G.step other.entry.now result other.exit.now }
         { self.find_beside(rt, number + 1, rest, other) };
         let (_, done) = thread::join_mut(rt, &mut share, &mut behind);
@@ -175,8 +171,7 @@ impl<M: Meter> Shares<'_, M> {
         requires sound { IsSoundPattern (pattern_of self.now.pattern.now) }
         ensures found { AreMatched (pattern_of self.now.pattern.now)
             (founds (piece_of self.now.size number (records_in self.now.pages.now))) worker.new.hits }
-        ensures room { worker.new.room ≡ worker.old.room }
-        ensures share { worker.new.share ≡ worker.old.share }
+        ensures same { HasSameRoom worker.old worker.new }
     {
         let start = number * self.size as usize;
         if start < self.total as usize {

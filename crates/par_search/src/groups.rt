@@ -64,11 +64,12 @@ impl<R: Threads + Sync, M: Meter> Task<'_, R, M> {
             (vec_capacity hits.old) (vec_capacity hits.new) }
     {
         hits.clear();
-        let first = GROUP.min(pages.len());
-        let mut fetched = self.fetch_first(from, first, service, pages);
+        let end = GROUP.min(pages.len());
+        let (first, _) = pages.split_at_mut(end);
+        let mut fetched = fetch_pages(self.pin, self.want, self.size, from, service, first);
         let mut group = Group {
             start: 0,
-            end: first,
+            end,
             tried: fetched.tried,
             from: fetched.from,
         };
@@ -94,25 +95,6 @@ impl<R: Threads + Sync, M: Meter> Task<'_, R, M> {
             hits,
         );
         fetched
-    }
-
-    // Fetches the first pages.
-    fn fetch_first<S: Service>(
-        &self,
-        from: Option<u32>,
-        number: usize,
-        service: &mut S,
-        pages: &mut [Page],
-    ) -> Fetched
-        requires can_fetch { CanFetch S.Service service.old
-            self.now.pin.now self.now.size from pages.old }
-        requires within { number ≤ length pages.old }
-        ensures fetched { FetchesInto S.Service service.old service.new
-            self.now.pin.now self.now.size self.now.want.now from
-            pages.old pages.new (take number pages.new) result }
-    {
-        let (first, _) = pages.split_at_mut(number);
-        fetch_pages(self.pin, self.want, self.size, from, service, first)
     }
 
     // Matches a group in other threads while the pages behind it, this many, are fetched in this one.

@@ -1,12 +1,12 @@
 //! The pieces of a page, each matched by its worker.
-ghost use Rattle.std.specs.Prelude.{◌≡◌, ◌≤◌, ◌<◌, ◌+◌, ◌++◌, ◌*◌, All, List, drop, false, length, map, slice_index_or, take, vec_capacity, ℕ};
+ghost use Rattle.std.specs.Prelude.{◌≡◌, ◌≤◌, ◌<◌, ◌+◌, ◌++◌, ◌*◌, All, List, drop, false, length, slice_index_or, take, vec_capacity};
 ghost use Rattle.std.specs.Int.{div_ceil};
 ghost use Rattle.smarts_parse.specs.Pattern.{PatternTerm, pattern_of};
 ghost use Rattle.smarts_parse.specs.Sound.{IsSoundPattern};
 ghost use Rattle.store_machine.specs.Answers.{AreMatched};
 ghost use Rattle.store_machine.specs.declared.machine.Found.{Found};
 ghost use Rattle.store_core.specs.Records.{founds};
-ghost use Rattle.par_search.specs.Flags.{AreFlagged, AreFlags, WorkerTerm, piece_of};
+ghost use Rattle.par_search.specs.Flags.{AreFlagged, AreFlags, HasSameRoom, HaveSameRoom, WorkerTerm, piece_of};
 ghost use Rattle.par_search.specs.declared.pieces.TheConstants.{MOST_WORKERS};
 
 use crate::meter::Meter;
@@ -36,8 +36,7 @@ pub fn match_pieces<R: Threads + Sync, M: Meter>(
     requires room { All (λ (w : WorkerTerm). div_ceil (length records.now) (length workers.old) ≤ w.room) workers.old }
     requires sound { IsSoundPattern (pattern_of pattern.now) }
     ensures flags { AreFlagged (pattern_of pattern.now) records.now workers.new }
-    ensures room { map {B = ℕ} (λ w. w.room) workers.new ≡ map {B = ℕ} (λ w. w.room) workers.old }
-    ensures share { map {B = ℕ} (λ w. w.share) workers.new ≡ map {B = ℕ} (λ w. w.share) workers.old }
+    ensures same { HaveSameRoom workers.old workers.new }
 {
     let threads = workers.len();
     let size = records.len().div_ceil(threads);
@@ -51,8 +50,7 @@ pub fn match_pieces<R: Threads + Sync, M: Meter>(
             requires sound { IsSoundPattern (pattern_of pattern.now) }
             ensures flags { AreFlags (pattern_of pattern.entry.now) (piece_of size number records.entry.now)
                 worker.new.flags }
-            ensures room { worker.new.room ≡ worker.old.room }
-            ensures share { worker.new.share ≡ worker.old.share }
+            ensures same { HasSameRoom worker.old worker.new }
         { match_piece(records, size, number, pattern, worker, meter) },
     );
 }
@@ -70,8 +68,7 @@ fn match_piece<M: Meter>(
     requires room { size ≤ worker.old.room }
     requires sound { IsSoundPattern (pattern_of pattern.now) }
     ensures flags { AreFlags (pattern_of pattern.now) (piece_of size number records.now) worker.new.flags }
-    ensures room { worker.new.room ≡ worker.old.room }
-    ensures share { worker.new.share ≡ worker.old.share }
+    ensures same { HasSameRoom worker.old worker.new }
 {
     let piece = piece_at(records, size, number);
     if !piece.is_empty() {

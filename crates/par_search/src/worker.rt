@@ -7,7 +7,7 @@ ghost use Rattle.smarts_parse.specs.Sound.{IsSoundPattern};
 ghost use Rattle.store_core.specs.Records.{founds};
 ghost use Rattle.store_machine.specs.Answers.{AreMatched};
 ghost use Rattle.store_machine.specs.declared.machine.Found.{Found};
-ghost use Rattle.par_search.specs.Flags.{AreFlags};
+ghost use Rattle.par_search.specs.Flags.{AreFlags, HasSameRoom};
 ghost use Rattle.par_search.specs.Shares.{records_in};
 ghost use Rattle.par_search.specs.declared.worker.TheConstants.{MOST_RECORDS};
 
@@ -94,8 +94,7 @@ impl Worker {
         requires sound { IsSoundPattern (pattern_of pattern.now) }
         requires room { length piece.now ≤ self.old.room }
         ensures flags { AreFlags (pattern_of pattern.now) piece.now self.new.flags }
-        ensures room { self.new.room ≡ self.old.room }
-        ensures share { self.new.share ≡ self.old.share }
+        ensures same { HasSameRoom self.old self.new }
     {
         self.scratch.prepare(pattern);
         self.flags.clear();
@@ -111,8 +110,7 @@ impl Worker {
         requires room { count ≤ self.old.share }
         ensures found { AreMatched (pattern_of pattern.now) (founds (take count (drop start (records_in pages.now))))
             self.new.hits }
-        ensures room { self.new.room ≡ self.old.room }
-        ensures share { self.new.share ≡ self.old.share }
+        ensures same { HasSameRoom self.old self.new }
     {
         self.scratch.prepare(pattern);
         self.hits.clear();

@@ -1,7 +1,7 @@
 -- What a lookup's lines say of what it found, and which act a request's lines are of.
 use Rattle.std.proofs.Common.{◌≡◌, ◌∙◌, ap, append-nil, Bool, Contains, Err, inl, inr, length, List, [], ◌∷◌, ◌++◌, map, Ok, refl, Result, subst, sym, ℕ}
 use Rattle.chem_core.specs.Molecule.{Molecule}
-use Rattle.lookup.specs.declared.same.SameList.{SameList}
+use Rattle.lookup.specs.declared.hits.HitList.{HitList}
 use Rattle.lookup.specs.declared.similar.SimilarList.{SimilarList}
 use Rattle.mol_finish.specs.Structure.{IsStructureOf}
 use Rattle.path_print.specs.Prints.{IsPrint}
@@ -30,7 +30,7 @@ use Rattle.session_run.proofs.Passing.{first_or_rest, hits_listed, none_in, one_
 -- What `same` found
 pub record SameFound (size : ℕ) (m : Molecule) (print : List Bool) (calls : Calls) (lines : Lines)
     (version tried count : ℕ) : Type 0 where
-  pub list : SameList
+  pub list : HitList
   pub found : FindsSame size m print calls list
   pub numbers : SameEnd list.version list.tried (length list.hits.items) version tried count
   pub listed : hits_in lines ≡ list.hits.items
@@ -111,7 +111,7 @@ similar_found version scored count (SimilarLost calls want place none lookup) k 
 
 -- What `register-new` found, by calls that others follow
 pub record NewFound (size : ℕ) (m : Molecule) (print : List Bool) (calls : Calls) (ids : List ℕ) : Type 0 where
-  pub list : SameList
+  pub list : HitList
   pub first : Calls
   pub rest : Calls
   pub made : calls ≡ first ++ rest

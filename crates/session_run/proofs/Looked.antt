@@ -5,7 +5,7 @@ use Rattle.chem_core.specs.Molecule.{Molecule}
 use Rattle.lookup.specs.Asked.{IsEmptyPrint}
 use Rattle.lookup.specs.Fetches as fetches
 use Rattle.lookup.specs.Fetches.{CutShort, Fetches, HeldBesides, Looks, NoneFree, Unasked, Whole, WornAfter, WornBefore, begun_calls, lookup_calls}
-use Rattle.lookup.specs.declared.same.SameList.{SameList}
+use Rattle.lookup.specs.declared.hits.HitList.{HitList}
 use Rattle.lookup.specs.declared.similar.SimilarList.{SimilarList}
 use Rattle.mol_finish.specs.Structure.{HasMolecule, IsAnswer}
 use Rattle.mol_finish.specs.declared.fault.Format.{Format}
@@ -195,7 +195,7 @@ module _ {Made : Calls → Type 0} {IsWorn : Type 0} {size : ℕ} {Allowed : Act
   listed act calls lines result made may does lost (inr t) =
       said calls line.MemoryFault result made (record { act = act; allowed = may; does = lost }) t
 
-  pub same_listed : (m : Molecule) (print : List Bool) (calls : Calls) (list : SameList)
+  pub same_listed : (m : Molecule) (print : List Bool) (calls : Calls) (list : HitList)
       (result : Result (Unit {0}) Stop) → Made calls → Allowed (Same m print) → FindsSame size m print calls list
       → TellsAll (same_lines list) out out' result
       → Answered Made IsWorn (Answers size Allowed cursors) out out' cursors result
@@ -252,7 +252,7 @@ new_pinless {standing = standing} may = record {
 
 -- a change is committed behind a lookup that found nothing
 module _ {size : ℕ} {Allowed : Act → Type 0} {cursors : List Cursor} (change : Change) (m : Molecule) (print : List Bool)
-    (calls : Calls) (list : SameList) (found : FindsSame size m print calls list) (none : list.hits.items ≡ [])
+    (calls : Calls) (list : HitList) (found : FindsSame size m print calls list) (none : list.hits.items ≡ [])
     (may : Allowed (RegisterNew change m print)) where
   committed : {cursors' : List Cursor} {act : Act} {its : Calls} {lines : Lines} → MayAsk (events.Commit change) act
       → Does size cursors act its lines cursors' → Answers size Allowed cursors (calls ++ its) lines cursors

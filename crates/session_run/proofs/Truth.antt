@@ -3,7 +3,7 @@ use Rattle.std.proofs.Common.{◌≡◌, ◌++◌, ◌+◌, ◌*◌, ◌≤◌, 
 use Rattle.chem_core.specs.Molecule.{IsMolecule, Molecule}
 use Rattle.lookup.specs.Asked.{IsSameAs}
 use Rattle.lookup.specs.Truths.{AreAllOffered, AreAllSame, InRun, SamesAreAnswers, SimilarsAreAnswers}
-use Rattle.lookup.specs.declared.same.SameList.{SameList}
+use Rattle.lookup.specs.declared.hits.HitList.{HitList}
 use Rattle.mol_finish.specs.Structure.{HasMolecule}
 use Rattle.mol_finish.specs.declared.fault.Format.{Format}
 use Rattle.mol_finish.specs.declared.fault.Format.TheVariants.{Smiles}
@@ -467,7 +467,7 @@ module _ (laws : Laws) (finds : Finds) (reading : OneReading) (s t : State) (ste
       sound run calm (w ∙ ap (λ (cs : Calls). first ++ (cs ++ rest)) l.made)
 
   -- what is the same as a structure, by what a lookup listed
-  all_same : (first its rest : Calls) {text : List ℕ} {m : Molecule} {print : List Bool} {list : SameList}
+  all_same : (first its rest : Calls) {text : List ℕ} {m : Molecule} {print : List Bool} {list : HitList}
       → calls_of own steps ≡ first ++ (its ++ rest) → IsPrinted text m print → FindsSame size m print its list
       → AreAllSame t.history m print list
   all_same first its rest {text} {m} {print} {list} w p found =

@@ -6,7 +6,7 @@ use Rattle.std.specs.Prelude.{◌≡◌, ◌≢◌, ◌⊎◌, ◌≤◌, ◌<�
 use Rattle.chem_core.specs.Molecule.{Molecule}
 use Rattle.io_edge.specs.Lines.{TextLine, Whole}
 use Rattle.lookup.specs.Asked.{IsEmptyPrint}
-use Rattle.lookup.specs.declared.same.SameList.{SameList}
+use Rattle.lookup.specs.declared.hits.HitList.{HitList}
 use Rattle.lookup.specs.declared.similar.SimilarList.{SimilarList}
 use Rattle.mol_finish.specs.Structure.{IsStructureOf}
 use Rattle.mol_finish.specs.declared.fault.Format.{Format}
@@ -185,7 +185,7 @@ pub data Advances (size : ℕ) (c : Cursor) : Calls → Lines → Cursor → Typ
       → Advances size c ((events.Fetch c.slot c.want from size, replies.NoMemory) ∷ []) (line.MemoryFault ∷ []) c
 
 -- the lines of what is the same, and of what is similar
-abbrev pub same_lines : SameList → Lines
+abbrev pub same_lines : HitList → Lines
 same_lines list = map line.Hit list.hits.items ++ line.End list.version list.tried (length list.hits.items) ∷ []
 
 abbrev pub like_line : Offer → line.Reply
@@ -196,7 +196,7 @@ similar_lines list = map like_line list.best.hits ++ line.Scored list.version li
 
 -- How `same` is answered: what was found is listed; or memory ran out, in a lookup that came so far, or for the lines
 pub data ListsSame (size : ℕ) (m : Molecule) (print : List Bool) : Calls → Lines → Type 0 where
-  AllSame : (calls : Calls) (list : SameList) (found : FindsSame size m print calls list)
+  AllSame : (calls : Calls) (list : HitList) (found : FindsSame size m print calls list)
       → ListsSame size m print calls (same_lines list)
   SameLost : (calls : Calls) (place : Place) (lookup : LooksUp size print place calls)
       → ListsSame size m print calls (line.MemoryFault ∷ [])
@@ -204,10 +204,10 @@ pub data ListsSame (size : ℕ) (m : Molecule) (print : List Bool) : Calls → L
 -- How `register-new` is answered: some structure is the same, the first of which is told, and nothing is committed; or
 -- none is, and the change is committed, as that of `register`; or memory ran out, and nothing is committed
 pub data RegistersNew (size : ℕ) (change : Change) (m : Molecule) (print : List Bool) : Calls → Lines → Type 0 where
-  NotNew : (calls : Calls) (list : SameList) (id : ℕ) (more : List ℕ) (found : FindsSame size m print calls list)
+  NotNew : (calls : Calls) (list : HitList) (id : ℕ) (more : List ℕ) (found : FindsSame size m print calls list)
       (first : list.hits.items ≡ id ∷ more)
       → RegistersNew size change m print calls (line.Refused (refusals.Same id) ∷ [])
-  IsNew : (calls : Calls) (list : SameList) (reply : Reply) (said : line.Reply)
+  IsNew : (calls : Calls) (list : HitList) (reply : Reply) (said : line.Reply)
       (found : FindsSame size m print calls list) (none : list.hits.items ≡ [])
       (is : IsLineOf (events.Commit change) reply said)
       → RegistersNew size change m print (calls ++ (events.Commit change, reply) ∷ []) (said ∷ [])

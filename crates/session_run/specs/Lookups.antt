@@ -5,7 +5,7 @@ use Rattle.chem_core.specs.Molecule.{Molecule}
 use Rattle.lookup.specs.Asked.{IsEmptyPrint}
 use Rattle.lookup.specs.Fetches.{AreFetches, lookup_calls}
 use Rattle.lookup.specs.Lists.{IsSameList, IsSimilarList}
-use Rattle.lookup.specs.declared.same.SameList.{SameList}
+use Rattle.lookup.specs.declared.hits.HitList.{HitList}
 use Rattle.lookup.specs.declared.similar.SimilarList.{SimilarList}
 use Rattle.smarts_parse.specs.Pattern.{PatternTerm}
 use Rattle.store_machine.specs.Answers.{AreMatched}
@@ -22,7 +22,7 @@ pub record LooksUp (size : ℕ) (want : List Bool) (place : Place) (calls : Call
   pub fetches : AreFetches slot size want (At 0) pages place
 
 -- a lookup to its end, and what is the same as a structure with this print
-pub record FindsSame (size : ℕ) (m : Molecule) (print : List Bool) (calls : Calls) (list : SameList) : Type 0 where
+pub record FindsSame (size : ℕ) (m : Molecule) (print : List Bool) (calls : Calls) (list : HitList) : Type 0 where
   pub lookup : LooksUp size print End calls
   pub is : IsSameList m lookup.version (records_of (fetched lookup.slot lookup.pages)) list
 

@@ -19,20 +19,12 @@ use crate::say::{say, say_given};
 use crate::search::fault_line;
 use crate::stop::Stop;
 use crate::texts::record_is_sound;
-use lookup::{SameList, SimilarList, find_same, find_similar};
+use lookup::{HitList, SimilarList, Similarity, find_same, find_similar};
 use mol_finish::Format;
 use shell_lang::{Refusal, Reply, reply_text};
 use std::alloc::AllocError;
 use store_core::{Change, Recorder, Service};
 use watch_list::Watches;
-
-/// What `similar` asks for: at most `k` hits, that have at least `p / q` of the bits in common.
-#[derive(Clone, Copy, Debug, PartialEq, Eq)]
-pub struct Similarity {
-    pub p: u32,
-    pub q: u32,
-    pub k: u32,
-}
 
 /// Lists what is the same structure as that of a text.
 pub fn same<S: Service>(
@@ -109,13 +101,10 @@ pub fn similar<S: Service>(
         Err(fault) => return say(&refuse_text(fault), out),
     };
     record_is_sound(&record);
-    let Similarity { p, q, k } = asked;
     match find_similar(
         cursors.alloc,
         service,
-        p,
-        q,
-        k,
+        asked,
         &record,
         cursors.settings.page,
     ) {
@@ -125,7 +114,7 @@ pub fn similar<S: Service>(
 }
 
 // Writes what is the same, or that memory ran out.
-fn say_same(list: &SameList, out: &mut Vec<u8>) -> Result<(), Stop>
+fn say_same(list: &HitList, out: &mut Vec<u8>) -> Result<(), Stop>
     ensures { TellsAll (same_lines list.now) out.old.items out.new.items result }
 {
     let len = out.len();
@@ -136,7 +125,7 @@ fn say_same(list: &SameList, out: &mut Vec<u8>) -> Result<(), Stop>
     say(&Reply::MemoryFault, out)
 }
 
-fn push_same(list: &SameList, out: &mut Vec<u8>) -> Result<(), AllocError>
+fn push_same(list: &HitList, out: &mut Vec<u8>) -> Result<(), AllocError>
     ensures ok { OnOk result (out.new.items ≡ out.old.items ++ text_of (same_lines list.now)) }
     ensures err { OnErr result (Extends out.old.items out.new.items) }
 {

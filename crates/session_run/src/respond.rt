@@ -17,7 +17,7 @@ use crate::commands::{TextChange, Verb, change_text, commit, compact, prune, sho
 use crate::cursors::Cursors;
 use crate::items::find_data;
 use crate::listing::ROOM;
-use crate::lookups::{Similarity, register_new, same, similar};
+use crate::lookups::{register_new, same, similar};
 use crate::matching::Matching;
 use crate::records::SdTexts;
 use crate::request::{Molfile, Next};
@@ -26,6 +26,7 @@ use crate::sd::register_sd;
 use crate::settings::Settings;
 use crate::stop::Stop;
 use crate::watches::{hits, unwatch, watch};
+use lookup::Similarity;
 use mol_finish::Format;
 use par_search::Meter;
 use shell_lang::{Command, LineRefusal, MolfileChange, Refusal, Reply, read_command};

@@ -1,7 +1,7 @@
 //! Lookups over a store in memory.
 
 use crate::tests::store_of;
-use lookup::{SearchFault, find_same, find_similar};
+use lookup::{SearchFault, Similarity, find_same, find_similar};
 use mol_finish::Format;
 use std::alloc::Global;
 use std::test::Fail;
@@ -65,7 +65,7 @@ fn are_similar(
     let Ok(record) = Record::make(alloc, 1, Format::Smiles, b"CO") else {
         return false;
     };
-    match find_similar(alloc, store, p, q, k, &record, 2) {
+    match find_similar(alloc, store, Similarity { p, q, k }, &record, 2) {
         Ok(list) => list.best.list() == hits
             && list.scored == store.version()
             && list.version == store.version(),

@@ -2,11 +2,10 @@ use Rattle.std.proofs.Common.{inr, Option, refl}
 use Rattle.par_search.specs.Faults.{fault_of}
 use Rattle.snap_registry.specs.declared.Pin.{Pin}
 use Rattle.lookup.specs.Fetches.{NoneFree}
-use Rattle.lookup.specs.Walks.{IsPinnedFrom}
 use Rattle.par_search.proofs.Held.{not_raised-more}
 use Rattle.lookup.proofs.Held.{none_taken}
 use Rattle.par_search.proofs.Joined.{makes-none}
-use Rattle.lookup.proofs.Looked.{SeenAll, looks-is, looks-passed, looks-unasked, pin_failed}
+use Rattle.lookup.proofs.Looked.{SeenAll, looks-is, looks-passed, looks-unasked, pin_failed, pinned_from}
 use Rattle.lookup.proofs.Walking.{says-worn}
 use Rattle.lookup.proofs.pages.see_head.Goals as goal
 
@@ -39,13 +38,9 @@ pub returns-clause-looks : goal.returns-clause-looks
 returns-clause-looks g c =
     let p = c.in-Some.pin in
     let is = c.in-Some.is in
-    let apart = rw is at c.in_ok-pin.ensures.apart in
-    let pinned : IsPinnedFrom g.S.Service c.args.service.now c.pin.new.self p = record {
-      made = record { made = rw is at c.in_ok-pin.ensures.call };
-      held = rw is at c.in_ok-pin.ensures.held;
-      free = λ other. apart p.slot p.version other (refl, refl);
-      bounds = c.in_ok-pin.ensures.bounds;
-    } in
+    let pinned = pinned_from g.S.Service c.args.service.now c.pin.new.self p
+    (record { made = rw is at c.in_ok-pin.ensures.call }) (rw is at c.in_ok-pin.ensures.held)
+    (rw is at c.in_ok-pin.ensures.apart) c.in_ok-pin.ensures.bounds in
     looks-is (c.see_pinned.ensures.looks c.args.service.now pinned)
     (SeenAll g.V.Visit.has_seen c.args.given.now c.args.visitor.now c.see_pinned.new.visitor)
     (λ version records seen h. (h.1, h.2, h.3))

@@ -3,11 +3,10 @@ use Rattle.par_search.specs.Faults.{fault_of}
 use Rattle.par_search.specs.declared.fault.SearchFault.TheVariants.{NoMemory}
 use Rattle.snap_registry.specs.declared.Pin.{Pin}
 use Rattle.lookup.specs.Fetches.{Failed, Looked, NoneFree}
-use Rattle.lookup.specs.Walks.{IsPinnedFrom}
 use Rattle.par_search.proofs.Held.{not_raised-more}
 use Rattle.lookup.proofs.Held.{none_taken}
 use Rattle.par_search.proofs.Joined.{makes-more, makes-none}
-use Rattle.lookup.proofs.Looked.{SeenAll, left_known, left_worn, looked-passed, looks-is, looks-unasked, pin_failed}
+use Rattle.lookup.proofs.Looked.{SeenAll, left_known, left_worn, looked-passed, looks-is, looks-unasked, pin_failed, pinned_from}
 use Rattle.lookup.proofs.Walking.{says-worn}
 use Rattle.lookup.proofs.pages.see_newer.Goals as goal
 
@@ -42,13 +41,9 @@ pub returns-then-is_known-clause-looks : goal.returns-then-is_known-clause-looks
 returns-then-is_known-clause-looks g c =
     let p = c.in-Some.pin in
     let is = c.in-Some.is in
-    let apart = rw is at c.in_ok-pin.ensures.apart in
-    let pinned : IsPinnedFrom g.S.Service c.args.service.now c.pin.new.self p = record {
-      made = record { made = rw is at c.in_ok-pin.ensures.call };
-      held = rw is at c.in_ok-pin.ensures.held;
-      free = λ other. apart p.slot p.version other (refl, refl);
-      bounds = c.in_ok-pin.ensures.bounds;
-    } in
+    let pinned = pinned_from g.S.Service c.args.service.now c.pin.new.self p
+    (record { made = rw is at c.in_ok-pin.ensures.call }) (rw is at c.in_ok-pin.ensures.held)
+    (rw is at c.in_ok-pin.ensures.apart) c.in_ok-pin.ensures.bounds in
     left_known c.args.size c.args.want.now
     (SeenAll g.V.Visit.has_seen c.args.given.now c.args.visitor.now c.args.visitor.now)
     (λ a b d xs ys u w. makes-more g.met.S.Service.joins g.met.S.Service.lands g.met.S.Service.same u w)
@@ -59,13 +54,9 @@ pub returns-in_err-unpin-clause-looks : goal.returns-in_err-unpin-clause-looks
 returns-in_err-unpin-clause-looks g c =
     let p = c.in-Some.pin in
     let is = c.in-Some.is in
-    let apart = rw is at c.in_ok-pin.ensures.apart in
-    let pinned : IsPinnedFrom g.S.Service c.args.service.now c.pin.new.self p = record {
-      made = record { made = rw is at c.in_ok-pin.ensures.call };
-      held = rw is at c.in_ok-pin.ensures.held;
-      free = λ other. apart p.slot p.version other (refl, refl);
-      bounds = c.in_ok-pin.ensures.bounds;
-    } in
+    let pinned = pinned_from g.S.Service c.args.service.now c.pin.new.self p
+    (record { made = rw is at c.in_ok-pin.ensures.call }) (rw is at c.in_ok-pin.ensures.held)
+    (rw is at c.in_ok-pin.ensures.apart) c.in_ok-pin.ensures.bounds in
     let all = SeenAll g.V.Visit.has_seen c.args.given.now c.args.visitor.now c.args.visitor.now in
     looked-passed all (fault_of c.in_err-unpin.field-0.0) c.from_residual-in_err-unpin.result
     c.from_residual-in_err-unpin.ensures.1
@@ -93,13 +84,9 @@ pub returns-clause-looks : goal.returns-clause-looks
 returns-clause-looks g c =
     let p = c.in-Some.pin in
     let is = c.in-Some.is in
-    let apart = rw is at c.in_ok-pin.ensures.apart in
-    let pinned : IsPinnedFrom g.S.Service c.args.service.now c.pin.new.self p = record {
-      made = record { made = rw is at c.in_ok-pin.ensures.call };
-      held = rw is at c.in_ok-pin.ensures.held;
-      free = λ other. apart p.slot p.version other (refl, refl);
-      bounds = c.in_ok-pin.ensures.bounds;
-    } in
+    let pinned = pinned_from g.S.Service c.args.service.now c.pin.new.self p
+    (record { made = rw is at c.in_ok-pin.ensures.call }) (rw is at c.in_ok-pin.ensures.held)
+    (rw is at c.in_ok-pin.ensures.apart) c.in_ok-pin.ensures.bounds in
     let no = c.if-is_known.false in
     Looked _ (looks-is (c.in_ok-seen.ensures.looks c.args.service.now pinned) _
     (λ version records seen h. ((λ e. no (sym h.0 ∙ e)), (h.1, h.2, h.3))))
@@ -108,13 +95,9 @@ pub returns-in_err-seen-clause-looks : goal.returns-in_err-seen-clause-looks
 returns-in_err-seen-clause-looks g c =
     let p = c.in-Some.pin in
     let is = c.in-Some.is in
-    let apart = rw is at c.in_ok-pin.ensures.apart in
-    let pinned : IsPinnedFrom g.S.Service c.args.service.now c.pin.new.self p = record {
-      made = record { made = rw is at c.in_ok-pin.ensures.call };
-      held = rw is at c.in_ok-pin.ensures.held;
-      free = λ other. apart p.slot p.version other (refl, refl);
-      bounds = c.in_ok-pin.ensures.bounds;
-    } in
+    let pinned = pinned_from g.S.Service c.args.service.now c.pin.new.self p
+    (record { made = rw is at c.in_ok-pin.ensures.call }) (rw is at c.in_ok-pin.ensures.held)
+    (rw is at c.in_ok-pin.ensures.apart) c.in_ok-pin.ensures.bounds in
     looked-passed (SeenAll g.V.Visit.has_seen c.args.given.now c.args.visitor.now c.see_pinned.new.visitor)
     c.in_err-seen.field-0.0 c.from_residual-in_err-seen.result c.from_residual-in_err-seen.ensures.1
     (c.in_err-seen.ensures.looks c.args.service.now pinned)

@@ -1,7 +1,7 @@
 use Rattle.std.proofs.Common.{[]}
 use Rattle.lookup.specs.Lists.{IsSameList}
 use Rattle.lookup.specs.declared.pages.Seen.{Seen}
-use Rattle.lookup.specs.declared.same.SameList.{SameList}
+use Rattle.lookup.specs.declared.hits.HitList.{HitList}
 use Rattle.par_search.proofs.Joined.{makes-none}
 use Rattle.lookup.proofs.Looked.{looks-as, looks-passed, looks-unasked, looks-want}
 use Rattle.lookup.proofs.same.find_same.Goals as goal
@@ -22,7 +22,7 @@ returns-clause-looks g c =
     let hits = c.see_head.new.visitor.hits in
     looks-want c.print.result.now c.args.given.now.print c.print.ensures.print
     (looks-as c.in_ok-seen.ensures.looks (IsSameList c.args.given.now.mol)
-    (λ (seen : Seen). (let list : SameList = record
+    (λ (seen : Seen). (let list : HitList = record
     { version = seen.version; tried = seen.count; hits = hits } in list))
     (λ version records seen h. record {
       version_is = h.0;

@@ -32,7 +32,6 @@ returns-clause-matched g c =
           subst (λ (l : List ℕ). AreMatched p (before ++ founds records) l)
           (sym {A = List ℕ} c.add_all_hits.ensures.hits)
           (matched-append p before (founds records) c.args.hits.now.items (hits_in new) m all);
-      pieces = c.find_beside-done.ensures.room;
-      share = c.find_beside-done.ensures.share;
+      workers = c.find_beside-done.ensures.same;
       capacity = c.add_all_hits.ensures.capacity;
     }
