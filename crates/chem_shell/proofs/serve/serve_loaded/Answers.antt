@@ -1,6 +1,7 @@
 use Rattle.std.proofs.Common.{◌≡◌, ◌∙◌, OnErr, OnOk, map, refl, ap, sym, subst, inr}
 use Rattle.disk_pair.specs.Term.{Paired, disk_a, disk_b}
 use Rattle.journal_core.specs.Looks.{Narrows}
+use Rattle.session_run.specs.Servable.{IsServable}
 use Rattle.session_run.specs.declared.settings.Settings.{Settings}
 use Rattle.serve_ends.specs.Serving.{Serving}
 use Rattle.store_disk.specs.OnDisk.{StoreTerm}
@@ -19,6 +20,9 @@ pub start-requires : goal.start-requires
 start-requires g c =
     let o = c.requires.standing in
     record { stands = (o.0, o.1, (c.args.plan.now.commits, o.2)) }
+
+pub serve_ends-ends-requires-clause-servable : goal.serve_ends-ends-requires-clause-servable
+serve_ends-ends-requires-clause-servable g c _ _ = subst IsServable (sym c.settings.ensures) c.requires.plan.servable
 
 pub returns-in-Ok-served : goal.returns-in-Ok-served
 returns-in-Ok-served g c = λ disks read_a read_b.
