@@ -5,13 +5,14 @@ use Rattle.std.proofs.lemmas.Fmt.{decimal_injective}
 use Rattle.std.proofs.lemmas.List.{length-map}
 use Rattle.std.specs.Borrow.{Bor}
 use Rattle.clap.specs.Words.{Row, Text, all_of, fault_of, first_of, matches_of}
+use Rattle.session_run.specs.Servable.{IsServable}
 use Rattle.store_core.specs.declared.store.TheConstants.{MOST_COMMITS}
 use Rattle.chem_shell.specs.declared.request.Plan.{Plan}
 use Rattle.chem_shell.specs.declared.request.Verb.{Verb}
 use Rattle.chem_shell.specs.declared.request.Verb.TheVariants.{Mem, Init, Run, Serve, Bulk, Drill}
 use Rattle.chem_shell.specs.declared.words.TheConstants.{LAST_SEED, MOST_STRUCTURES}
 use Rattle.chem_shell.specs.Done.{HasEnds}
-use Rattle.chem_shell.specs.Words.{AreSizes, Asks, AsksFor, HasScripts, IsBulk, IsInMemory, IsInit, IsNumber, IsRow, IsRunOf, IsServe, IsSetting, IsWithinLimits, chemdb_app}
+use Rattle.chem_shell.specs.Words.{AreCommits, AreSizes, Asks, AsksFor, HasScripts, IsBulk, IsInMemory, IsInit, IsNumber, IsRow, IsRunOf, IsServe, IsSetting, IsWithinLimits, chemdb_app, settings_of}
 
 pub none_of_image : {X Y : Type 0} (f : X → Y) (o : Option X) (v : Option Y) → option_map f o ≡ v → v ≡ None → o ≡ None
 none_of_image f None v same none = refl
@@ -60,22 +61,19 @@ setting_within None most default n some few is = (omega (arith, some, is), omega
 setting_within (Some text) most default n some few is = (is.1, is.2)
 
 -- the sizes and the commits that options give are within their limits
-within : (found : List Row) (p : Plan) → AreSizes found p.workers p.page
-    → IsSetting (first_of (codes "commits") found) MOST_COMMITS MOST_COMMITS p.commits → IsWithinLimits p
-within found p sizes commits =
+servable : (found : List Row) (p : Plan) → AreSizes found p.workers p.page → IsServable (settings_of p)
+servable found p sizes =
     let w = setting_within (first_of (codes "workers") found) 16 1 p.workers (omega arith) (omega arith) sizes.0 in
     let r = setting_within (first_of (codes "page") found) 256 256 p.page (omega arith) (omega arith) sizes.1 in
+    record { some_workers = w.0; few_workers = w.1; some_records = r.0; few_records = r.1 }
+
+within : (found : List Row) (p : Plan) → AreSizes found p.workers p.page → AreCommits found p.commits
+    → IsWithinLimits p
+within found p sizes commits =
     let c =
     setting_within (first_of (codes "commits") found) MOST_COMMITS MOST_COMMITS p.commits (omega arith) (omega arith)
     commits in
-    record {
-      some_workers = w.0;
-      few_workers = w.1;
-      some_records = r.0;
-      few_records = r.1;
-      some_commits = c.0;
-      few_commits = c.1;
-    }
+    record { servable = servable found p sizes; some_commits = c.0; few_commits = c.1 }
 
 -- the row of a command
 abbrev pub IsOf : Verb → List Row → Plan → Type 0
@@ -91,22 +89,18 @@ of_within Mem found p a = within found p a.sizes a.commits
 of_within Drill found p a = within found p a.sizes a.commits
 of_within Run found p a = within found p a.sizes a.commits
 of_within Serve found p a = within found p a.sizes a.commits
-of_within Bulk found p a =
-    let w = setting_within (first_of (codes "workers") found) 16 1 p.workers (omega arith) (omega arith) a.sizes.0 in
-    let r = setting_within (first_of (codes "page") found) 256 256 p.page (omega arith) (omega arith) a.sizes.1 in
-    record {
-      some_workers = w.0;
-      few_workers = w.1;
-      some_records = r.0;
-      few_records = r.1;
-      some_commits = omega (arith, a.commits);
-      few_commits = omega (arith, a.commits);
-    }
+of_within Bulk found p a = record {
+  servable = servable found p a.sizes;
+  some_commits = omega (arith, a.commits);
+  few_commits = omega (arith, a.commits);
+}
 of_within Init found p a = record {
-  some_workers = omega (arith, a.workers);
-  few_workers = omega (arith, a.workers);
-  some_records = omega (arith, a.page);
-  few_records = omega (arith, a.page);
+  servable = record {
+    some_workers = omega (arith, a.workers);
+    few_workers = omega (arith, a.workers);
+    some_records = omega (arith, a.page);
+    few_records = omega (arith, a.page);
+  };
   some_commits = omega (arith, a.commits);
   few_commits = omega (arith, a.commits);
 }
@@ -130,9 +124,8 @@ rest_same a c bs ds e = cc
 scripts_of : (args : Option (List Text)) (p : Plan) (h : HasScripts args p) → length p.scripts.items ≡ length h.words
 scripts_of args p h = sym (length-map p.scripts.items (λ (word : Bor Text). word.now)) ∙ ap length h.scripts
 
-one_commits : (found : List Row) (p q : Plan)
-    → IsSetting (first_of (codes "commits") found) MOST_COMMITS MOST_COMMITS p.commits
-    → IsSetting (first_of (codes "commits") found) MOST_COMMITS MOST_COMMITS q.commits → p.commits ≡ q.commits
+one_commits : (found : List Row) (p q : Plan) → AreCommits found p.commits → AreCommits found q.commits
+    → p.commits ≡ q.commits
 one_commits found p q a b =
     one_setting (first_of (codes "commits") found) MOST_COMMITS MOST_COMMITS p.commits q.commits (omega arith) a b
 

@@ -1,5 +1,5 @@
 -- What many ends at desks of one hall leave, in the words of the top call.
-use Rattle.std.proofs.Common.{◌≡◌, ◌≢◌, ◌⊎◌, ◌∙◌, ◌<◌, ◌≤◌, ◌^◌, ◌+◌, ◌++◌, if◌then◌else◌, true, false, suc, Bool, ℕ, List, [], ◌∷◌, Some, length, map, refl, sym, ap, subst, inl, inr, append-nil, arith}
+use Rattle.std.proofs.Common.{◌≡◌, ◌⊎◌, ◌∙◌, ◌<◌, ◌≤◌, ◌^◌, ◌+◌, ◌++◌, if◌then◌else◌, true, false, suc, Bool, ℕ, List, [], ◌∷◌, Some, length, map, refl, sym, ap, subst, inl, inr, append-nil, arith}
 use Rattle.std.proofs.lemmas.Bool.{cases_lt}
 use Rattle.std.proofs.lemmas.List.Elements.{All-nil, All-cons}
 use Rattle.std.specs.Prelude.{All, slice_index_or}
@@ -34,55 +34,19 @@ use Rattle.serve_ends.specs.Serving.{Serving}
 use Rattle.serve_ends.specs.Ends.{EndServed}
 use Rattle.serve_ends.specs.Status.{IsStatusOf}
 use Rattle.serve_ends.specs.declared.end.End.{End}
-use Rattle.serve_ends.specs.declared.status.TheConstants.{SOURCE_FAULT, SINK_FAULT, INPUT_TOO_LONG, WORN}
-use Rattle.chem_shell.specs.Loading.{HasEndCauses}
+use Rattle.serve_ends.specs.declared.status.TheConstants.{WORN}
+use Rattle.chem_shell.specs.Ends.{HasEndCauses}
 use Rattle.chem_shell.specs.Serving.{IsScriptServed}
 use Rattle.chem_shell.specs.OnDisks.{AreAtDesks, AreOnDisks, ServesAtDesk, ServesOn}
 use Rattle.chem_shell.specs.Words.{settings_of}
 use Rattle.chem_shell.specs.declared.request.Plan.{Plan}
+use Rattle.chem_shell.proofs.Ended.{causes_of_end, ended_worn, not_worn}
 use Rattle.chem_shell.proofs.Ends.{IsOfEnd}
 use Rattle.chem_shell.proofs.Loaded.{on_these_disks}
 use Rattle.chem_shell.proofs.Opened.{opened_in, opens_at}
 use Rattle.chem_shell.proofs.Transcripts.{end_of, script_of, served_true}
 
--- how a session ended, by the status of its end
-ended_worn : (ended : EndStatus) (status : ℕ) → IsStatusOf ended status → status ≡ WORN → ended ≡ Worn
-ended_worn Done status is e = absurd (omega (arith, is, e))
-ended_worn SourceFault status is e = absurd (omega (arith, is, e))
-ended_worn SinkFault status is e = absurd (omega (arith, is, e))
-ended_worn NoMemory status is e = absurd (omega (arith, is, e))
-ended_worn InputTooLong status is e = absurd (omega (arith, is, e))
-ended_worn Worn status is e = refl
-
-not_worn : (ended : EndStatus) (status : ℕ) → IsStatusOf ended status → status ≢ WORN → ended ≢ Worn
-not_worn ended status is fit e = fit (subst (λ (x : EndStatus). IsStatusOf x status) e is)
-
-ended_source : (ended : EndStatus) (status : ℕ) → IsStatusOf ended status → status ≡ SOURCE_FAULT
-    → ended ≡ SourceFault
-ended_source Done status is e = absurd (omega (arith, is, e))
-ended_source SourceFault status is e = refl
-ended_source SinkFault status is e = absurd (omega (arith, is, e))
-ended_source NoMemory status is e = absurd (omega (arith, is, e))
-ended_source InputTooLong status is e = absurd (omega (arith, is, e))
-ended_source Worn status is e = absurd (omega (arith, is, e))
-
-ended_sink : (ended : EndStatus) (status : ℕ) → IsStatusOf ended status → status ≡ SINK_FAULT → ended ≡ SinkFault
-ended_sink Done status is e = absurd (omega (arith, is, e))
-ended_sink SourceFault status is e = absurd (omega (arith, is, e))
-ended_sink SinkFault status is e = refl
-ended_sink NoMemory status is e = absurd (omega (arith, is, e))
-ended_sink InputTooLong status is e = absurd (omega (arith, is, e))
-ended_sink Worn status is e = absurd (omega (arith, is, e))
-
-ended_long : (ended : EndStatus) (status : ℕ) → IsStatusOf ended status → status ≡ INPUT_TOO_LONG
-    → ended ≡ InputTooLong
-ended_long Done status is e = absurd (omega (arith, is, e))
-ended_long SourceFault status is e = absurd (omega (arith, is, e))
-ended_long SinkFault status is e = absurd (omega (arith, is, e))
-ended_long NoMemory status is e = absurd (omega (arith, is, e))
-ended_long InputTooLong status is e = refl
-ended_long Worn status is e = absurd (omega (arith, is, e))
-
+-- the status of an end
 status_of_end : (ended : EndStatus) (status : ℕ) → IsStatusOf ended status → IsOfEnd status
 status_of_end Worn status is = inr is
 status_of_end Done status is = inl (end_of Done status (λ e. cc e) is)
@@ -128,14 +92,7 @@ end_causes source sink plan (old ∷ olds) [] count each = absurd (omega (arith,
 end_causes source sink plan (old ∷ olds) (new ∷ news) count each =
     let end = (each 0 old (omega arith)).1 in
     let rest = end_causes source sink plan olds news (omega (arith, count)) (λ i d less. each (suc i) d (omega (arith, less))) in (
-      (
-        record {
-          source_fault = λ e. end.source_fault (ended_source end.ended new.status end.status e);
-          sink_fault = λ e. end.sink_fault (ended_sink end.ended new.status end.status e);
-          input_too_long = λ e. end.too_long (ended_long end.ended new.status end.status e);
-        },
-        rest.0,
-      ),
+      (causes_of_end source sink end.ended old new end.status end.ends, rest.0),
       All-cons IsOfEnd new.status (map (λ end. end.status) news)
           (status_of_end end.ended new.status end.status) rest.1,
     )
@@ -165,12 +122,12 @@ module _ {S K : Type 0} (source : taken.Ghosts S) (sink : put.Ghosts K) (law : S
       let served = served_true law end.ended plan.page (source.left old.source) (source.left new.source)
       (sink.written old.sink) (sink.written new.sink) calls to.history (calls_in_run owner) end.served in
       record {
-        served = λ fit. script_of source.left sink.written end.ended plan.page calls to.history old new
-            (not_worn end.ended new.status end.status fit) end.status served end.done end.within;
+        served = λ fit. script_of source sink end.ended plan.page calls to.history old new
+            (not_worn end.ended new.status end.status fit) end.status served end.ends;
         worn = λ e. (subst (λ (x : EndStatus). IsScriptServed x plan.page (source.left old.source)
             (source.left new.source) (sink.written old.sink) (sink.written new.sink) calls to.history)
             (ended_worn end.ended new.status end.status e) served).script;
-        within = end.within;
+        within = end.ends.within;
       }
 
   -- each end, from the first owner on

@@ -13,8 +13,8 @@ use Rattle.store_disk.specs.Loads.{Damages}
 use Rattle.store_disk.specs.declared.disks.Disks.{Disks}
 use Rattle.chem_shell.specs.Contents.{IfBothTell, disks_of}
 use Rattle.chem_shell.specs.Done.{IsDone, Leaves}
-use Rattle.chem_shell.specs.Ends.{with_status}
-use Rattle.chem_shell.specs.Loading.{HasCauses, HasEndCauses, IsCausedBy}
+use Rattle.chem_shell.specs.Ends.{HasEndCauses, with_status}
+use Rattle.chem_shell.specs.Loading.{HasCauses, IsCausedBy}
 use Rattle.chem_shell.specs.Status.{first_fault, IsLoadStatus}
 use Rattle.chem_shell.specs.declared.outcome.Outcome.{Outcome}
 use Rattle.chem_shell.specs.declared.request.Plan.{Plan}

@@ -6,10 +6,12 @@ use Rattle.drill_run.specs.Drilled.{IsDialogue, IsDialoguePrefix, IsDrilled, IsD
 use Rattle.drill_run.specs.Truths.{AreAllTold, DrillsAreTrue}
 use Rattle.drill_run.proofs.Parts.{calls-parts}
 use Rattle.io_edge.specs.Lines.{TextLine, lines_of}
+use Rattle.io_edge.specs.declared.sinks.Sink as put
+use Rattle.io_edge.specs.declared.sources.Source as taken
 use Rattle.serve_ends.specs.Status.{IsStatusOf}
 use Rattle.serve_ends.specs.declared.end.End.{End}
 use Rattle.session_run.specs.Cursors.{Calls}
-use Rattle.session_run.specs.Served.{TakesAll, TakesAtMost, Writes}
+use Rattle.session_run.specs.Served.{EndsAs, Writes}
 use Rattle.session_run.specs.declared.settings.EndStatus.{EndStatus}
 use Rattle.session_run.specs.declared.settings.EndStatus.TheVariants.{Done, SourceFault, SinkFault, NoMemory, InputTooLong, Worn}
 use Rattle.store_core.specs.Stored.{empty}
@@ -103,25 +105,27 @@ all_of law ended commits page (Some bytes) before after calls run e s = writes_a
     (subst (λ x. Writes before after (IsDrilled x page (lines_of bytes) calls)) e s)
 
 -- what a drill leaves of an end
-pub drill_of : DrillsAreTrue → {S K : Type 0} (left : S → Option (List ℕ)) (written : K → Option (List ℕ))
-    (ended : EndStatus) (plan : Plan) (calls : Calls) (old new : End S K) → ended ≢ Worn → IsStatusOf ended new.status
+pub drill_of : DrillsAreTrue → {S K : Type 0} (source : taken.Ghosts S) (sink : put.Ghosts K) (ended : EndStatus)
+    (plan : Plan) (calls : Calls) (old new : End S K) → ended ≢ Worn → IsStatusOf ended new.status
     → AreOfDrill plan.commits calls
-    → IsDrilledBy ended plan.page (left old.source) (left new.source) (written old.sink) (written new.sink) calls
-    → (ended ≡ Done → TakesAll (left old.source) (left new.source))
-    → TakesAtMost (left old.source) (left new.source) INPUT_LIMIT
-    → ServesDrill plan left written old new
-drill_of law left written ended plan calls old new fit is run drilled done within = record {
-  status = end_of ended new.status fit is;
-  calls = calls;
-  run = run;
-  prefix = prefix_of law ended plan.commits plan.page (left old.source) (written old.sink) (written new.sink) calls run
-      drilled.script;
-  all = λ e. all_of law ended plan.commits plan.page (left old.source) (written old.sink) (written new.sink) calls run
-      (done_of ended new.status is e) drilled.script;
-  taken = λ e. drilled.taken (input_fault_of ended new.status is e);
-  done = λ e. done (done_of ended new.status is e);
-  within = within;
-}
+    → IsDrilledBy ended plan.page (source.left old.source) (source.left new.source) (sink.written old.sink)
+    (sink.written new.sink) calls → EndsAs source sink ended INPUT_LIMIT old.source new.source old.sink new.sink
+    → ServesDrill plan source.left sink.written old new
+drill_of law source sink ended plan calls old new fit is run drilled ends =
+    let input = source.left old.source in
+    let before = sink.written old.sink in
+    let after = sink.written new.sink in
+    record {
+      status = end_of ended new.status fit is;
+      calls = calls;
+      run = run;
+      prefix = prefix_of law ended plan.commits plan.page input before after calls run drilled.script;
+      all = λ e. all_of law ended plan.commits plan.page input before after calls run (done_of ended new.status is e)
+          drilled.script;
+      taken = λ e. drilled.taken (input_fault_of ended new.status is e);
+      done = λ e. ends.done (done_of ended new.status is e);
+      within = ends.within;
+    }
 
 -- no calls are those of no run
 abbrev none_of_drill : (commits : ℕ) → AreOfDrill commits []

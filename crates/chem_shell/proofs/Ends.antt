@@ -13,8 +13,8 @@ use Rattle.chem_shell.specs.declared.request.Plan.{Plan}
 use Rattle.chem_shell.specs.declared.request.Verb.{Verb}
 use Rattle.chem_shell.specs.Done.{Leaves}
 use Rattle.chem_shell.specs.Status.{first_fault, IsEndStatus, IsLoadStatus}
-use Rattle.chem_shell.specs.Ends.{with_status}
-use Rattle.chem_shell.specs.Loading.{HasCauses, HasEndCauses}
+use Rattle.chem_shell.specs.Ends.{HasEndCauses, with_status}
+use Rattle.chem_shell.specs.Loading.{HasCauses}
 use Rattle.chem_shell.specs.OnDisks.{IsRefused}
 
 pub zip_weaker : {A B : Type 0} (R Q : A → B → Type 0) → ((x : A) (y : B) → R x y → Q x y) → (xs : List A) (ys : List B)

@@ -1,4 +1,5 @@
 pub mod Ends
+pub mod Ended
 pub mod Transcripts
 pub mod Drills
 pub mod Summaries

@@ -10,7 +10,8 @@ use Rattle.serve_ends.specs.declared.status.TheConstants.{SINK_FAULT}
 use Rattle.store_disk.specs.declared.disks.Disks.{Disks}
 use Rattle.chem_shell.specs.Contents.{disks_of}
 use Rattle.chem_shell.specs.Done.{IsDone, Leaves}
-use Rattle.chem_shell.specs.Loading.{HasCauses, HasEndCauses}
+use Rattle.chem_shell.specs.Ends.{HasEndCauses}
+use Rattle.chem_shell.specs.Loading.{HasCauses}
 use Rattle.chem_shell.specs.Status.{first_fault, IsEndStatus, IsSinkStatus}
 use Rattle.chem_shell.specs.declared.outcome.Outcome.{Outcome}
 use Rattle.chem_shell.specs.declared.request.Plan.{Plan}

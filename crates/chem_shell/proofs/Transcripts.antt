@@ -1,9 +1,11 @@
 -- What a session put of a script: whole transcripts, beginnings, and what is true of them.
 use Rattle.std.proofs.Common.{◌≡◌, ◌≢◌, ℕ, List, [], ◌∷◌, ◌++◌, Option, None, Some, IfSome, refl, sym, ap, inl, inr, append-nil, arith}
 use Rattle.io_edge.specs.Lines.{TextLine, lines_of}
+use Rattle.io_edge.specs.declared.sinks.Sink as put
+use Rattle.io_edge.specs.declared.sources.Source as taken
 use Rattle.session_run.specs.Cursors.{Calls}
 use Rattle.session_run.specs.Served as session
-use Rattle.session_run.specs.Served.{TakesAll, TakesAtMost, Writes}
+use Rattle.session_run.specs.Served.{EndsAs, TakesAtMost, Writes}
 use Rattle.session_run.specs.Transcript as script
 use Rattle.session_run.specs.Truths.{AreTrue, IsInRun, IsTrueBeginning, IsTrueService, ServicesAreTrue}
 use Rattle.session_run.specs.Watching.{nothing_kept}
@@ -207,21 +209,23 @@ input_fault_of Worn status is (inl e) = absurd (omega (arith, is, e))
 input_fault_of Worn status is (inr e) = absurd (omega (arith, is, e))
 
 -- what a session leaves of an end
-pub script_of : {S K : Type 0} (left : S → Option (List ℕ)) (written : K → Option (List ℕ)) (ended : EndStatus)
-    (page : ℕ) (calls : Calls) (h : History) (old new : End S K) → ended ≢ Worn → IsStatusOf ended new.status
-    → IsScriptServed ended page (left old.source) (left new.source) (written old.sink) (written new.sink) calls h
-    → (ended ≡ Done → TakesAll (left old.source) (left new.source))
-    → TakesAtMost (left old.source) (left new.source) INPUT_LIMIT
-    → ServesScript left written page calls h old new
-script_of left written ended page calls h old new fit is served done within = record {
-  status = end_of ended new.status fit is;
-  prefix = prefix_of ended page (left old.source) (written old.sink) (written new.sink) calls h fit served.script;
-  all = λ e. all_of ended new.status page (left old.source) (written old.sink) (written new.sink) calls h is e
-      served.script;
-  taken = λ e. served.taken (input_fault_of ended new.status is e);
-  done = λ e. done (done_of ended new.status is e);
-  within = within;
-}
+pub script_of : {S K : Type 0} (source : taken.Ghosts S) (sink : put.Ghosts K) (ended : EndStatus) (page : ℕ)
+    (calls : Calls) (h : History) (old new : End S K) → ended ≢ Worn → IsStatusOf ended new.status
+    → IsScriptServed ended page (source.left old.source) (source.left new.source) (sink.written old.sink)
+    (sink.written new.sink) calls h → EndsAs source sink ended INPUT_LIMIT old.source new.source old.sink new.sink
+    → ServesScript source.left sink.written page calls h old new
+script_of source sink ended page calls h old new fit is served ends =
+    let input = source.left old.source in
+    let before = sink.written old.sink in
+    let after = sink.written new.sink in
+    record {
+      status = end_of ended new.status fit is;
+      prefix = prefix_of ended page input before after calls h fit served.script;
+      all = λ e. all_of ended new.status page input before after calls h is e served.script;
+      taken = λ e. served.taken (input_fault_of ended new.status is e);
+      done = λ e. ends.done (done_of ended new.status is e);
+      within = ends.within;
+    }
 
 -- where nothing was put
 nothing_put : (page : ℕ) (h : History) (input before : Option (List ℕ))

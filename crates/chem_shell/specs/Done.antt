@@ -7,8 +7,8 @@ use Rattle.serve_ends.specs.declared.serve.TheConstants.{MOST_ENDS}
 use Rattle.store_disk.specs.declared.disks.Disks.{Disks}
 use Rattle.chem_shell.specs.Contents.{disks_of}
 use Rattle.chem_shell.specs.Drills.{ServesDrill}
-use Rattle.chem_shell.specs.Ends.{ServesBulk, ServesMem}
-use Rattle.chem_shell.specs.Loading.{HasCauses, HasEndCauses}
+use Rattle.chem_shell.specs.Ends.{HasEndCauses, ServesBulk, ServesMem}
+use Rattle.chem_shell.specs.Loading.{HasCauses}
 use Rattle.chem_shell.specs.OnDisks.{Creates, IsRefused, RunsOn, ServesOn}
 use Rattle.chem_shell.specs.Status.{first_fault}
 use Rattle.chem_shell.specs.declared.outcome.Outcome.{Outcome}

@@ -1,13 +1,14 @@
 -- For callers: what is left of the ends that are served. What a source has left and a sink was given are told by
 -- functions.
 use Rattle.std.specs.Prelude.{◌≡◌, ℕ, Option, List, IfSome}
+use Rattle.io_edge.specs.Faults.{Rose}
 use Rattle.session_run.specs.Cursors.{Calls}
-use Rattle.session_run.specs.Served.{IsAllOfTaken, TakesAll, TakesAtMost, Writes, WritesForTaken}
+use Rattle.session_run.specs.Served.{IsAllOfTaken, TakesAll, TakesAtMost, TakesExactly, Writes, WritesForTaken}
 use Rattle.store_machine.specs.declared.machine.History.{History}
 use Rattle.chem_shell.specs.declared.request.Plan.{Plan}
 use Rattle.serve_ends.specs.declared.end.End.{End}
 use Rattle.chem_shell.specs.declared.settings.TheConstants.{INPUT_LIMIT}
-use Rattle.serve_ends.specs.declared.status.TheConstants.{DONE, SINK_FAULT, NO_MEMORY}
+use Rattle.serve_ends.specs.declared.status.TheConstants.{DONE, INPUT_TOO_LONG, NO_MEMORY, SINK_FAULT, SOURCE_FAULT}
 use Rattle.chem_shell.specs.Runs.{AreOfRun, IsTranscriptBy, IsTranscriptPrefixBy}
 use Rattle.chem_shell.specs.Status.{IsEndStatus, IsInputStatus, IsSinkStatus}
 use Rattle.chem_shell.specs.Summed.{IsSummary, IsSummaryPrefix, WritesNothing}
@@ -46,3 +47,11 @@ pub record ServesBulk {S K : Type 0} (plan : Plan) (written : K → Option (List
   pub all : new.status ≡ DONE → Writes (written old.sink) (written new.sink) (IsSummary plan)
   pub prefix : new.status ≡ SINK_FAULT → Writes (written old.sink) (written new.sink) (IsSummaryPrefix plan)
   pub nothing : new.status ≡ NO_MEMORY → WritesNothing (written old.sink) (written new.sink)
+
+-- The causes of the statuses that come of an end: its source or its sink counted a fault, or an input of the limit's
+-- length was taken
+pub record HasEndCauses {S K : Type 0} (left : S → Option (List ℕ)) (source_faults : S → ℕ) (sink_faults : K → ℕ)
+    (old new : End S K) : Type 0 where
+  pub source_fault : new.status ≡ SOURCE_FAULT → Rose (source_faults old.source) (source_faults new.source)
+  pub sink_fault : new.status ≡ SINK_FAULT → Rose (sink_faults old.sink) (sink_faults new.sink)
+  pub input_too_long : new.status ≡ INPUT_TOO_LONG → TakesExactly (left old.source) (left new.source) INPUT_LIMIT

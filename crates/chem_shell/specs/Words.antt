@@ -5,6 +5,7 @@ use Rattle.clap.specs.Lexer.{usize_max}
 use Rattle.clap.specs.Simple.{new_shape}
 use Rattle.clap.specs.Words.{App, Row, Rule, Text, all_of, fault_of, first_of, matches_of, new_rule}
 use Rattle.serve_ends.specs.declared.serve.TheConstants.{MOST_ENDS}
+use Rattle.session_run.specs.Servable.{IsServable}
 use Rattle.session_run.specs.declared.settings.Settings.{Settings}
 use Rattle.store_core.specs.declared.store.TheConstants.{MOST_COMMITS}
 use Rattle.chem_shell.specs.declared.request.Plan.{Plan}
@@ -62,11 +63,15 @@ abbrev pub AreSizes : List Row → ℕ → ℕ → Type 0
 AreSizes found workers page =
     IsSetting (first_of (codes "workers") found) 16 1 workers × IsSetting (first_of (codes "page") found) 256 256 page
 
+-- 1 to 16,777,215 commits
+abbrev pub AreCommits : List Row → ℕ → Type 0
+AreCommits found commits = IsSetting (first_of (codes "commits") found) MOST_COMMITS MOST_COMMITS commits
+
 -- `mem` and `drill`: no args, 1 to 16,777,215 commits, one end
 pub record IsInMemory (verb : Verb) (found : List Row) (plan : Plan) : Type 0 where
   pub args : all_of (codes "args") found ≡ None
   pub sizes : AreSizes found plan.workers plan.page
-  pub commits : IsSetting (first_of (codes "commits") found) MOST_COMMITS MOST_COMMITS plan.commits
+  pub commits : AreCommits found plan.commits
   pub command : plan.command ≡ verb
   pub ends : plan.ends ≡ 1
   pub file : plan.file ≡ None
@@ -104,7 +109,7 @@ pub record IsInit (found : List Row) (plan : Plan) : Type 0 where
 pub record IsRunOf (found : List Row) (plan : Plan) : Type 0 where
   pub args : HasFile (all_of (codes "args") found) plan
   pub sizes : AreSizes found plan.workers plan.page
-  pub commits : IsSetting (first_of (codes "commits") found) MOST_COMMITS MOST_COMMITS plan.commits
+  pub commits : AreCommits found plan.commits
   pub command : plan.command ≡ Run
   pub ends : plan.ends ≡ 1
   pub scripts : plan.scripts.items ≡ []
@@ -131,7 +136,7 @@ pub record HasScripts (args : Option (List Text)) (plan : Plan) : Type 0 where
 pub record IsServe (found : List Row) (plan : Plan) : Type 0 where
   pub args : HasScripts (all_of (codes "args") found) plan
   pub sizes : AreSizes found plan.workers plan.page
-  pub commits : IsSetting (first_of (codes "commits") found) MOST_COMMITS MOST_COMMITS plan.commits
+  pub commits : AreCommits found plan.commits
   pub command : plan.command ≡ Serve
   pub ends : plan.ends ≡ length plan.scripts.items
   pub seed : plan.seed ≡ 0
@@ -183,11 +188,8 @@ OnPlan words verb P = (plan : Plan) → AsksFor words plan → plan.command ≡ 
 abbrev pub settings_of : Plan → Settings
 settings_of plan = record { workers = plan.workers; page = plan.page; input_limit = INPUT_LIMIT }
 
--- the settings of a plan are within their limits
+-- the settings of a plan and its commits are within their limits
 pub record IsWithinLimits (plan : Plan) : Type 0 where
-  pub some_workers : 1 ≤ plan.workers
-  pub few_workers : plan.workers ≤ 16
-  pub some_records : 1 ≤ plan.page
-  pub few_records : plan.page ≤ 256
+  pub servable : IsServable (settings_of plan)
   pub some_commits : 1 ≤ plan.commits
   pub few_commits : plan.commits ≤ MOST_COMMITS

@@ -1,11 +1,10 @@
 //! `drill`: sessions on a store in memory whose disks are stopped, failed and reopened.
-ghost use Rattle.std.specs.Prelude.{◌≡◌, ◌≢◌};
+ghost use Rattle.std.specs.Prelude.{◌≢◌};
 ghost use Rattle.drill_run.specs.Drilled.{IsDrilledBy};
-ghost use Rattle.io_edge.specs.Faults.{Rose};
 ghost use Rattle.session_run.specs.Cursors.{Calls};
-ghost use Rattle.session_run.specs.Served.{TakesAll, TakesAtMost, TakesExactly};
+ghost use Rattle.session_run.specs.Served.{EndsAs};
 ghost use Rattle.chem_shell.specs.Drills.{AreOfDrill, ServesDrill};
-ghost use Rattle.chem_shell.specs.Loading.{HasEndCauses};
+ghost use Rattle.chem_shell.specs.Ends.{HasEndCauses};
 ghost use Rattle.chem_shell.specs.Words.{IsWithinLimits};
 
 use crate::request::Plan;
@@ -48,12 +47,7 @@ fn run_drill<R: Threads + Sync, I: Source, O: Sink>(
         × IsDrilledBy result plan.now.page (I.left source.old) (I.left source.new)
         (O.written sink.old) (O.written sink.new) calls }
     ensures not_worn { result ≢ EndStatus.Worn }
-    ensures source_fault { result ≡ EndStatus.SourceFault → Rose (I.faults source.old) (I.faults source.new) }
-    ensures sink_fault { result ≡ EndStatus.SinkFault → Rose (O.faults sink.old) (O.faults sink.new) }
-    ensures done { result ≡ EndStatus.Done → TakesAll (I.left source.old) (I.left source.new) }
-    ensures within { TakesAtMost (I.left source.old) (I.left source.new) INPUT_LIMIT }
-    ensures too_long { result ≡ EndStatus.InputTooLong
-        → TakesExactly (I.left source.old) (I.left source.new) INPUT_LIMIT }
+    ensures ends { EndsAs I.Source O.Sink result INPUT_LIMIT source.old source.new sink.old sink.new }
 {
     let Ok(world) = World::new(alloc, plan.commits) else {
         return EndStatus::NoMemory;

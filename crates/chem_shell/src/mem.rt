@@ -1,10 +1,8 @@
 //! `mem`: a session over a store in memory, which keeps no journal.
-ghost use Rattle.std.specs.Prelude.{◌≡◌, ◌≢◌};
-ghost use Rattle.io_edge.specs.Faults.{Rose};
+ghost use Rattle.std.specs.Prelude.{◌≢◌};
 ghost use Rattle.session_run.specs.Cursors.{Calls};
-ghost use Rattle.session_run.specs.Served.{TakesAll, TakesAtMost, TakesExactly};
-ghost use Rattle.chem_shell.specs.Ends.{ServesMem};
-ghost use Rattle.chem_shell.specs.Loading.{HasEndCauses};
+ghost use Rattle.session_run.specs.Served.{EndsAs};
+ghost use Rattle.chem_shell.specs.Ends.{HasEndCauses, ServesMem};
 ghost use Rattle.chem_shell.specs.Runs.{AreOfRun};
 ghost use Rattle.chem_shell.specs.Serving.{IsScriptServed};
 ghost use Rattle.chem_shell.specs.Words.{IsWithinLimits};
@@ -47,12 +45,7 @@ pub fn run_script<R: Threads + Sync, I: Source, O: Sink>(
         × IsScriptServed result plan.now.page (I.left source.old) (I.left source.new)
         (O.written sink.old) (O.written sink.new) calls run.last.history }
     ensures not_worn { result ≢ EndStatus.Worn }
-    ensures source_fault { result ≡ EndStatus.SourceFault → Rose (I.faults source.old) (I.faults source.new) }
-    ensures sink_fault { result ≡ EndStatus.SinkFault → Rose (O.faults sink.old) (O.faults sink.new) }
-    ensures done { result ≡ EndStatus.Done → TakesAll (I.left source.old) (I.left source.new) }
-    ensures within { TakesAtMost (I.left source.old) (I.left source.new) INPUT_LIMIT }
-    ensures too_long { result ≡ EndStatus.InputTooLong
-        → TakesExactly (I.left source.old) (I.left source.new) INPUT_LIMIT }
+    ensures ends { EndsAs I.Source O.Sink result INPUT_LIMIT source.old source.new sink.old sink.new }
 {
     services_are_true();
     let mut store = Store::in_memory(alloc, plan.commits);

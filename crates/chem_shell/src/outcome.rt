@@ -24,7 +24,7 @@ pub struct Outcome<D, S, K> {
 impl<D: Drop, S: Drop, K: Drop> Outcome<D, S, K> {
     // Ends were served: the overall status is the first that is not 0.
     pub(crate) fn served(place: u64, disks: Disks<D>, ends: Vec<End<S, K>>) -> Outcome<D, S, K>
-        ensures status { result.status ≡ first_fault (map (λ end. end.status) ends.items) }
+        ensures status { result.status ≡ first_fault (map (λ end. end.status) result.ends.items) }
         ensures place { result.place ≡ place }
         ensures disks { disks_of result ≡ disks }
         ensures ends { result.ends ≡ ends }

@@ -1,14 +1,12 @@
 //! The top call: the words, the ends and the disks in, and what became of them out.
-ghost use Rattle.std.specs.Prelude.{◌≡◌, ◌≢◌, ◌≤◌, ◌⊎◌, [], false, length, map, true};
+ghost use Rattle.std.specs.Prelude.{◌≡◌, ◌≢◌, ◌≤◌, ◌⊎◌, [], length, map};
 ghost use Rattle.std.specs.List.{AllZip};
 ghost use Rattle.disk_edge.specs.Disk.{Faulted};
-ghost use Rattle.io_edge.specs.Faults.{Rose};
 ghost use Rattle.journal_core.specs.Fronts.{IsOpen};
-ghost use Rattle.session_run.specs.Served.{TakesExactly};
 ghost use Rattle.store_disk.specs.Loads.{Damages};
 ghost use Rattle.chem_shell.specs.Contents.{IfBothTell, disks_of};
 ghost use Rattle.chem_shell.specs.Drills.{ServesDrill};
-ghost use Rattle.chem_shell.specs.Ends.{ServesBulk, ServesMem, with_status};
+ghost use Rattle.chem_shell.specs.Ends.{HasEndCauses, ServesBulk, ServesMem, with_status};
 ghost use Rattle.chem_shell.specs.Done.{HasEnds, IsDone};
 ghost use Rattle.chem_shell.specs.OnDisks.{Creates, IsRefused, RunsOn, ServesOn};
 ghost use Rattle.chem_shell.specs.Status.{first_fault};
@@ -22,10 +20,7 @@ use crate::mem::serve_mem;
 use crate::outcome::Outcome;
 use crate::request::{Plan, PlanFault, Verb};
 use crate::serve::serve_many;
-use crate::settings::INPUT_LIMIT;
-use crate::status::{
-    DAMAGED, DISK_FAULT, INPUT_TOO_LONG, NO_MEMORY, NOT_A_STORE, SINK_FAULT, SOURCE_FAULT, USAGE,
-};
+use crate::status::{DAMAGED, DISK_FAULT, NO_MEMORY, NOT_A_STORE, USAGE};
 use crate::words::plan;
 use disk_edge::Disk;
 use io_edge::{Sink, Source};
@@ -62,13 +57,7 @@ pub fn chemdb<
 
     // A fault comes only where the end's object failed in this call, and only an input of the limit's length is too
     // long.
-    ensures source_fault { AllZip (λ old new.
-        new.status ≡ SOURCE_FAULT → Rose (S.faults old.source) (S.faults new.source)) ends.items result.ends.items }
-    ensures sink_fault { AllZip (λ old new.
-        new.status ≡ SINK_FAULT → Rose (K.faults old.sink) (K.faults new.sink)) ends.items result.ends.items }
-    ensures input_too_long { AllZip (λ old new.
-        new.status ≡ INPUT_TOO_LONG → TakesExactly (S.left old.source) (S.left new.source) INPUT_LIMIT)
-        ends.items result.ends.items }
+    ensures end_causes { AllZip (HasEndCauses S.left S.faults K.faults) ends.items result.ends.items }
 
     // A fault of a disk comes only where one failed in this call. There is no store where neither disk is open, and the
     // place of damage is that of the bytes that are read.

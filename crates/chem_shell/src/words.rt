@@ -1,9 +1,9 @@
 //! The words of the command line: what they ask for, or which of them is wrong.
-ghost use Rattle.std.specs.Prelude.{◌≡◌, ◌≢◌, ◌≤◌, ◌⊎◌, ℕ, [], None, Some, ◌∷◌, false, map, option_map, IfErr, IfOk, IsErrOf, IsNone, IsSome, OnErr, OnOk, List, All, length};
+ghost use Rattle.std.specs.Prelude.{◌≡◌, ◌≢◌, ◌≤◌, ◌⊎◌, ℕ, [], None, Some, ◌∷◌, false, option_map, IfErr, IfOk, IsErrOf, IsNone, IsSome, OnErr, OnOk, List, All, length};
 ghost use Rattle.clap.specs.Words.{Text, app_of, fault_of, found_of, kind_of, matches_of, rows_of, rule_of};
 ghost use Rattle.serve_ends.specs.declared.serve.TheConstants.{MOST_ENDS};
 ghost use Rattle.chem_shell.specs.declared.request.Plan.{Plan as ThePlan};
-ghost use Rattle.chem_shell.specs.Words.{args_of, chemdb_app, option_rule, texts, AreSizes, Asks, AsksFor, IsBulk, IsFile, IsInMemory, IsInit, IsNumber, IsRunOf, IsServe, IsSetting, AreFileAndScripts};
+ghost use Rattle.chem_shell.specs.Words.{args_of, chemdb_app, option_rule, texts, AreCommits, AreSizes, Asks, AsksFor, IsBulk, IsFile, IsInMemory, IsInit, IsNumber, IsRunOf, IsServe, IsSetting, AreFileAndScripts};
 
 use crate::fault::WordFault;
 use crate::request::{Plan, PlanFault, Verb};
@@ -135,12 +135,7 @@ fn in_memory<'w>(
 {
     no_args(command, found.get_raw("args"))?;
     let (workers, page) = sizes(found)?;
-    let commits = setting(
-        "--commits",
-        found.get_str("commits"),
-        MOST_COMMITS,
-        MOST_COMMITS,
-    )?;
+    let commits = commits(found)?;
     Ok(Plan {
         command: verb,
         file: None,
@@ -183,12 +178,7 @@ fn run<'w>(alloc: Global, found: &ArgMatches<'w>) -> Result<Plan<'w>, WordFault<
 {
     let file = one_file("run", found.get_raw("args"))?;
     let (workers, page) = sizes(found)?;
-    let commits = setting(
-        "--commits",
-        found.get_str("commits"),
-        MOST_COMMITS,
-        MOST_COMMITS,
-    )?;
+    let commits = commits(found)?;
     Ok(Plan {
         command: Verb::Run,
         file: Some(file),
@@ -210,12 +200,7 @@ fn serve<'w>(alloc: Global, found: &ArgMatches<'w>) -> Result<Plan<'w>, WordFaul
 {
     let (file, words) = file_and_scripts(found.get_raw("args"))?;
     let (workers, page) = sizes(found)?;
-    let commits = setting(
-        "--commits",
-        found.get_str("commits"),
-        MOST_COMMITS,
-        MOST_COMMITS,
-    )?;
+    let commits = commits(found)?;
     let scripts = words.iter().copied().collect::<Vec<_>>(alloc)?;
     let ends = scripts.len() as u32;
     Ok(Plan {
@@ -267,6 +252,19 @@ fn sizes<'w>(found: &ArgMatches<'w>) -> Result<(u32, u32), WordFault<'w>>
     let workers = setting("--workers", found.get_str("workers"), 16, 1)?;
     let page = setting("--page", found.get_str("page"), 256, 256)?;
     Ok((workers, page))
+}
+
+// How many commits a store may have.
+fn commits<'w>(found: &ArgMatches<'w>) -> Result<u32, WordFault<'w>>
+    ensures ok { IfOk result (AreCommits (rows_of (found_of found.now))) }
+    ensures err { OnErr result ((n : ℕ) → ¬ AreCommits (rows_of (found_of found.now)) n) }
+{
+    setting(
+        "--commits",
+        found.get_str("commits"),
+        MOST_COMMITS,
+        MOST_COMMITS,
+    )
 }
 
 // A command on a store in memory takes no words.

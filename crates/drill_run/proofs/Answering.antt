@@ -370,8 +370,8 @@ module _ (a b : Sessions) (old : WorldTerm) (line : TextLine) (image : ℕ) (rea
     opened-by number fit none settings (Err fault) h = lost (goes-open none)
 
   -- memory ran out, and nothing was done
-  pub unopened : (fault : AllocError) → turns.Answered a b old line (Err fault)
-  unopened fault = record {
+  pub unopened : (result : Result WorldTerm AllocError) → IsErr result → turns.Answered a b old line result
+  unopened result failed = lost-by a b old line result failed (record {
     whole = record {
       line = line;
       read = Some (Reopen image);
@@ -391,7 +391,7 @@ module _ (a b : Sessions) (old : WorldTerm) (line : TextLine) (image : ℕ) (rea
     };
     runs = λ s at. ([], s, refl, refl, tt);
     tallied = λ t h small. inl refl;
-  }
+  })
 
 -- a session's line
 module _ (a : Sessions) (rs : List Responder) (old new : WorldTerm) (number : ℕ) (own : List ℕ) (r r' : Responder)

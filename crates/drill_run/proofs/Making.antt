@@ -3,6 +3,7 @@ use Rattle.std.proofs.Common.{◌≡◌, ◌≤◌, ◌<◌, ◌++◌, ◌∙◌
 use Rattle.std.specs.List.{AllByRecursion}
 use Rattle.session_run.specs.Cursors.{Cursor}
 use Rattle.session_run.specs.Opened.{opened}
+use Rattle.session_run.specs.Servable.{IsServable}
 use Rattle.session_run.specs.Standings.{both, standing_of, watched_all}
 use Rattle.session_run.specs.Walks.{AreSized, cursors_of}
 use Rattle.session_run.specs.Watching.{Standing, Watched, nothing_kept}
@@ -13,15 +14,11 @@ use Rattle.drill_run.specs.Turns.{IsSessionOf}
 use Rattle.drill_run.specs.Views.{kept_in}
 
 -- a session without cursors, whose settings are within the limits
-pub session-new : (settings : Settings) (r : Responder) → 1 ≤ settings.workers → settings.workers ≤ 16
-    → 1 ≤ settings.page → settings.page ≤ 256 → r.cursors.settings ≡ settings → opened r.cursors ≡ []
-    → IsSessionOf settings r
-session-new settings r a b c d same none = (
+pub session-new : (settings : Settings) (r : Responder) → IsServable settings → r.cursors.settings ≡ settings
+    → opened r.cursors ≡ [] → IsSessionOf settings r
+session-new settings r servable same none = (
   record {
-    some_workers = rw same a;
-    few_workers = rw same b;
-    some = rw same c;
-    few = rw same d;
+    servable = subst IsServable (sym same) servable;
     sized = subst (AreSized r.cursors.settings.page) (sym none) tt;
   },
   same,

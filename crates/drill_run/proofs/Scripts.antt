@@ -9,8 +9,7 @@ use Rattle.io_edge.specs.Lines as io
 use Rattle.io_edge.specs.Lines.{Reading, TextLine, done_bytes, lines_left, whole_lines}
 use Rattle.session_run.specs.Cursors.{Calls}
 use Rattle.session_run.specs.Served.{TakesAll, TakesAtMost, TakesExactly, Writes, WritesForTaken}
-use Rattle.session_run.specs.Serving.{IsFresh}
-use Rattle.session_run.specs.Turn.{ReadsOn, TakesNone}
+use Rattle.session_run.specs.Turn.{IsFresh, ReadsOn, TakesNone}
 use Rattle.session_run.specs.declared.settings.EndStatus.{EndStatus}
 use Rattle.session_run.specs.declared.settings.EndStatus.TheVariants.{Done, SourceFault, SinkFault, NoMemory, InputTooLong, Worn}
 use Rattle.session_run.proofs.Continued.{leaves, none_more}
@@ -391,6 +390,3 @@ fresh r limit e = record {
   untaken = ap (λ (x : Reading). x.taken) e;
   unended = ap (λ (x : Reading). x.ended) e;
 }
-
-pub takes_nothing : (before : Option (List ℕ)) (n : ℕ) → TakesAtMost before before n
-takes_nothing before n = if_told before _ (λ input e. ([], input, refl, e, omega arith))

@@ -1,12 +1,12 @@
 //! A drill, line by line.
-ghost use Rattle.std.specs.Prelude.{◌≡◌, ◌≢◌, ◌≤◌, ◌<◌, ◌^◌, Err, IfErr, IfOk, IsTrue, Ok, OnOk, OnErr, ℕ};
+ghost use Rattle.std.specs.Prelude.{◌≡◌, ◌≢◌, ◌≤◌, ◌<◌, ◌^◌, Err, IfErr, IfOk, IsTrue, Ok, OnOk, ℕ};
 ghost use Rattle.drill_core.specs.Worlds.{HasNoFailures};
 ghost use Rattle.io_edge.specs.Faults.{Rose};
 ghost use Rattle.io_edge.specs.Lines.{TextLine, done_bytes};
 ghost use Rattle.session_run.specs.Cursors.{Calls};
-ghost use Rattle.session_run.specs.Served.{TakesAll, TakesAtMost, TakesExactly};
-ghost use Rattle.session_run.specs.Serving.{IsFresh};
-ghost use Rattle.session_run.specs.Turn.{IsNextLine, ReadsOn, TakesNone};
+ghost use Rattle.session_run.specs.Servable.{IsServable};
+ghost use Rattle.session_run.specs.Served.{EndsAs};
+ghost use Rattle.session_run.specs.Turn.{IsFresh, IsNextLine, ReadsOn, TakesNone};
 ghost use Rattle.store_core.specs.Stored.{empty};
 ghost use Rattle.store_disk.specs.InMemory.{StandsInMemory};
 ghost use Rattle.drill_run.specs.Drilled.{IsDrilledBy, Runs, all_empty};
@@ -33,22 +33,14 @@ pub fn drill<R: Threads + Sync, I: Source, O: Sink, M: Meter>(
     settings: &Settings,
     meter: &M,
 ) -> EndStatus
-    requires some_workers { 1 ≤ settings.now.workers }
-    requires few_workers { settings.now.workers ≤ 16 }
-    requires some { 1 ≤ settings.now.page }
-    requires few { settings.now.page ≤ 256 }
+    requires servable { IsServable settings.now }
     requires new { (commits : ℕ) × StandsInMemory world (empty commits) }
     requires no_failures { HasNoFailures world }
     ensures drills { (calls : Calls) × Runs world calls
         × IsDrilledBy result settings.now.page (I.left source.old) (I.left source.new)
         (O.written sink.old) (O.written sink.new) calls }
     ensures worn { result ≢ EndStatus.Worn }
-    ensures source_fault { result ≡ EndStatus.SourceFault → Rose (I.faults source.old) (I.faults source.new) }
-    ensures sink_fault { result ≡ EndStatus.SinkFault → Rose (O.faults sink.old) (O.faults sink.new) }
-    ensures done { result ≡ EndStatus.Done → TakesAll (I.left source.old) (I.left source.new) }
-    ensures within { TakesAtMost (I.left source.old) (I.left source.new) settings.now.input_limit }
-    ensures too_long { result ≡ EndStatus.InputTooLong
-        → TakesExactly (I.left source.old) (I.left source.new) settings.now.input_limit }
+    ensures ends { EndsAs I.Source O.Sink result settings.now.input_limit source.old source.new sink.old sink.new }
 {
     let Ok(mut lines) = Lines::new(alloc, settings.input_limit) else {
         return EndStatus::NoMemory;
@@ -78,12 +70,7 @@ fn serve<R: Threads + Sync, I: Source, O: Sink, M: Meter>(
         × IsDrilledBy result sessions.old.settings.page (I.left source.old) (I.left source.new)
         (O.written sink.old) (O.written sink.new) calls }
     ensures worn { result ≢ EndStatus.Worn }
-    ensures source_fault { result ≡ EndStatus.SourceFault → Rose (I.faults source.old) (I.faults source.new) }
-    ensures sink_fault { result ≡ EndStatus.SinkFault → Rose (O.faults sink.old) (O.faults sink.new) }
-    ensures done { result ≡ EndStatus.Done → TakesAll (I.left source.old) (I.left source.new) }
-    ensures within { TakesAtMost (I.left source.old) (I.left source.new) lines.old.limit }
-    ensures too_long { result ≡ EndStatus.InputTooLong
-        → TakesExactly (I.left source.old) (I.left source.new) lines.old.limit }
+    ensures ends { EndsAs I.Source O.Sink result lines.old.limit source.old source.new sink.old sink.new }
 {
     let mut world = world;
     loop {

@@ -6,6 +6,7 @@ ghost use Rattle.io_edge.specs.Lines.{TextLine, TooLong, Whole};
 ghost use Rattle.session_run.specs.Opened.{opened};
 ghost use Rattle.session_run.specs.Pins.{AreHeld};
 ghost use Rattle.session_run.specs.Responds.{IsFit};
+ghost use Rattle.session_run.specs.Servable.{IsServable};
 ghost use Rattle.session_run.specs.Standings.{standing_of};
 ghost use Rattle.session_run.specs.Walks.{cursors_of};
 ghost use Rattle.session_run.specs.Watching.{nothing_kept};
@@ -45,10 +46,7 @@ pub struct Sessions {
 impl Sessions {
     /// Without cursors and watches.
     pub fn new(alloc: Global, settings: Settings) -> Result<Sessions, AllocError>
-        requires some_workers { 1 ≤ settings.workers }
-        requires few_workers { settings.workers ≤ 16 }
-        requires some { 1 ≤ settings.page }
-        requires few { settings.page ≤ 256 }
+        requires servable { IsServable settings }
         ensures settings { IfOk result (λ sessions. sessions.settings ≡ settings) }
         ensures none { IfOk result (λ sessions. kept_in sessions.responders.items ≡ all_empty) }
         ensures ready { IfOk result (λ sessions. (world : WorldTerm) (s : State) → StandsInMemory world s
@@ -194,13 +192,9 @@ impl Sessions {
         ensures { (line : TextLine) → Reads line (Some (lines.Reopen image))
             → Answered self.old self.new world line result }
     {
-        match world.reopen(image) {
-            Ok((world, version)) => {
-                self.forget();
-                self.say_version(world, version)
-            }
-            Err(fault) => Err(fault),
-        }
+        let (world, version) = world.reopen(image)?;
+        self.forget();
+        self.say_version(world, version)
     }
 
     // Writes a reply, and hands the world on.

@@ -1,12 +1,9 @@
 -- For callers: what a session leaves of an end, by the calls that were made for it.
-use Rattle.std.specs.Prelude.{◌≡◌}
-use Rattle.io_edge.specs.Faults.{Rose}
 use Rattle.io_edge.specs.declared.sinks.Sink as put
 use Rattle.io_edge.specs.declared.sources.Source as taken
 use Rattle.session_run.specs.Cursors.{Calls}
-use Rattle.session_run.specs.Served.{IsServedBy, TakesAll, TakesAtMost, TakesExactly}
+use Rattle.session_run.specs.Served.{EndsAs, IsServedBy}
 use Rattle.session_run.specs.declared.settings.EndStatus.{EndStatus}
-use Rattle.session_run.specs.declared.settings.EndStatus.TheVariants.{Done, InputTooLong, SinkFault, SourceFault}
 use Rattle.session_run.specs.declared.settings.Settings.{Settings}
 use Rattle.serve_ends.specs.declared.end.End.{End}
 use Rattle.serve_ends.specs.Status.{IsStatusOf}
@@ -19,9 +16,4 @@ pub record EndServed {S K : Type 0} (source : taken.Ghosts S) (sink : put.Ghosts
   pub status : IsStatusOf ended after.status
   pub served : IsServedBy ended settings.page (source.left before.source) (source.left after.source)
       (sink.written before.sink) (sink.written after.sink) calls
-  pub done : ended ≡ Done → TakesAll (source.left before.source) (source.left after.source)
-  pub within : TakesAtMost (source.left before.source) (source.left after.source) settings.input_limit
-  pub too_long : ended ≡ InputTooLong
-      → TakesExactly (source.left before.source) (source.left after.source) settings.input_limit
-  pub source_fault : ended ≡ SourceFault → Rose (source.faults before.source) (source.faults after.source)
-  pub sink_fault : ended ≡ SinkFault → Rose (sink.faults before.sink) (sink.faults after.sink)
+  pub ends : EndsAs source sink ended settings.input_limit before.source after.source before.sink after.sink

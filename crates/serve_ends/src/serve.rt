@@ -2,6 +2,7 @@
 //! passes are joined again.
 ghost use Rattle.std.specs.Prelude.{◌≡◌, ◌≤◌, ◌<◌, [], All, ℕ, OnErr, OnOk, length, map, slice_index_or, vec_capacity, vec_len};
 ghost use Rattle.hall.specs.Passes.{IsOf, IsRoot, IsWhole, Runs, known};
+ghost use Rattle.session_run.specs.Servable.{IsServable};
 ghost use Rattle.serve_ends.specs.Serving.{Serving};
 ghost use Rattle.serve_ends.specs.Slots.{CanServe, IsCut, Joins, WasServed, splits};
 ghost use Rattle.serve_ends.specs.declared.serve.TheConstants.{MOST_ENDS};
@@ -46,10 +47,7 @@ pub fn serve_ends<
     requires runs { Runs pass.old }
     requires some { 1 ≤ length ends.items }
     requires few { length ends.items ≤ MOST_ENDS }
-    requires some_workers { 1 ≤ settings.now.workers }
-    requires few_workers { settings.now.workers ≤ 16 }
-    requires some_records { 1 ≤ settings.now.page }
-    requires few_records { settings.now.page ≤ 256 }
+    requires servable { IsServable settings.now }
     ensures served { OnOk result.1
         (Serving S.Source K.Sink settings.now pass.old pass.new ends.items result.0.items) }
     ensures memory { OnErr result.1 ((pass.new ≡ pass.old) × (result.0 ≡ ends)) }
@@ -114,10 +112,7 @@ fn serve_all<
 )
     requires some { 1 ≤ length slots.old }
     requires can { All (λ slot. CanServe hall.now slot) slots.old }
-    requires some_workers { 1 ≤ settings.now.workers }
-    requires few_workers { settings.now.workers ≤ 16 }
-    requires some_records { 1 ≤ settings.now.page }
-    requires few_records { settings.now.page ≤ 256 }
+    requires servable { IsServable settings.now }
     ensures { (i : ℕ) (d : _) → i < length slots.old → WasServed S.Source K.Sink settings.now hall.now
         (slice_index_or slots.old i d) (slice_index_or slots.new i d) }
 {
@@ -128,10 +123,7 @@ fn serve_all<
         threads,
         &|_place: usize, slot: &mut Slot<D, S, K>|
             requires can { CanServe hall.now slot.old }
-            requires some_workers { 1 ≤ settings.now.workers }
-            requires few_workers { settings.now.workers ≤ 16 }
-            requires some_records { 1 ≤ settings.now.page }
-            requires few_records { settings.now.page ≤ 256 }
+            requires servable { IsServable settings.now }
             ensures { WasServed S.Source K.Sink settings.entry.now hall.entry.now slot.old slot.new }
         { serve_end(rt, alloc, hall, slot, settings, meter) },
     );

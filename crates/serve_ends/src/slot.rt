@@ -1,5 +1,5 @@
 //! An end with its pass, and its session at a desk.
-ghost use Rattle.std.specs.Prelude.{◌≤◌};
+ghost use Rattle.session_run.specs.Servable.{IsServable};
 ghost use Rattle.serve_ends.specs.Slots.{CanServe, WasServed};
 
 use crate::end::End;
@@ -30,10 +30,7 @@ pub fn serve_end<R: Threads + Wait + Sync, D: Disk + Drop, S: Source, K: Sink, M
     meter: &M,
 )
     requires can { CanServe hall.now slot.old }
-    requires some_workers { 1 ≤ settings.now.workers }
-    requires few_workers { settings.now.workers ≤ 16 }
-    requires some { 1 ≤ settings.now.page }
-    requires few { settings.now.page ≤ 256 }
+    requires servable { IsServable settings.now }
     ensures { WasServed S.Source K.Sink settings.now hall.now slot.old slot.new }
 {
     let Some(pass) = slot.pass.take() else {

@@ -1,8 +1,10 @@
 -- How a session is closed: the pins of its open cursors are given back.
 use Rattle.std.proofs.Common.{◌≡◌, ◌++◌, ap, append-nil, arith, IfSome, inl, List, [], None, Option, refl, Some, sym, ℕ}
 use Rattle.io_edge.specs.Lines.{TextLine, lines_of}
+use Rattle.io_edge.specs.declared.sinks.Sink as sinks
+use Rattle.io_edge.specs.declared.sources.Source as sources
 use Rattle.session_run.specs.Cursors.{Calls, unpins}
-use Rattle.session_run.specs.Served.{IsAllOfTaken, IsServed, IsServedBy, TakesAtMost, Writes, WritesForTaken}
+use Rattle.session_run.specs.Served.{EndsAs, IsAllOfTaken, IsServed, IsServedBy, TakesAtMost, Writes, WritesForTaken}
 use Rattle.session_run.specs.Serving.{AnswersTaken, Ends, Serves}
 use Rattle.session_run.specs.Transcript.{IsDialogue, IsPrefixOf, InClosing, Stops, WornAt}
 use Rattle.session_run.specs.Watching.{Standing, nothing_kept}
@@ -115,6 +117,28 @@ served-none size before put = record { script = none before put; taken = λ is. 
   )
 
 -- nothing was taken
-pub takes_nothing : (before : Option (List ℕ)) (n : ℕ) → TakesAtMost before before n
+takes_nothing : (before : Option (List ℕ)) (n : ℕ) → TakesAtMost before before n
 takes_nothing None n = tt
 takes_nothing (Some bytes) n = ([], bytes, refl, refl, omega arith)
+
+-- memory ran out before anything was read
+pub ends-none : {S K : Type 0} (source : sources.Ghosts S) (sink : sinks.Ghosts K) (limit : ℕ) (s : S) (k : K)
+    → EndsAs source sink NoMemory limit s s k k
+ends-none source sink limit s k = record {
+  source_fault = λ e. absurd (cc e);
+  sink_fault = λ e. absurd (cc e);
+  done = λ e. absurd (cc e);
+  within = takes_nothing (source.left s) limit;
+  too_long = λ e. absurd (cc e);
+}
+
+-- the service was worn, then or before
+pub ends-worn : {S K : Type 0} {source : sources.Ghosts S} {sink : sinks.Ghosts K} {end : EndStatus} {limit : ℕ}
+    {s s' : S} {k k' : K} → EndsAs source sink end limit s s' k k' → EndsAs source sink Worn limit s s' k k'
+ends-worn e = record {
+  source_fault = λ is. absurd (cc is);
+  sink_fault = λ is. absurd (cc is);
+  done = λ is. absurd (cc is);
+  within = e.within;
+  too_long = λ is. absurd (cc is);
+}

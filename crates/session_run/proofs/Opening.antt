@@ -1,5 +1,5 @@
 -- What `open`, `next` and `close` answer, by the cursor of a name.
-use Rattle.std.proofs.Common.{◌≡◌, ◌≤◌, ◌++◌, ◌∙◌, ap, append-nil, append_assoc, Bool, drop, Err, get_or, inl, inr, List, [], ◌∷◌, refl, Result, set, subst, suc, sym, take, ℕ}
+use Rattle.std.proofs.Common.{◌≡◌, ◌++◌, ◌∙◌, ap, append-nil, append_assoc, Bool, drop, Err, get_or, inl, inr, List, [], ◌∷◌, refl, Result, set, subst, suc, sym, take, ℕ}
 use Rattle.std.specs.List.{remove}
 use Rattle.par_search.specs.Searches.{HasBegun, SearchTerm}
 use Rattle.shell_lang.specs.Reply as line
@@ -16,6 +16,7 @@ use Rattle.session_run.specs.Pins.{AreHeld, HeldAfter, HeldBy, MovePins, Returns
 use Rattle.session_run.specs.Responds.{IsFit}
 use Rattle.session_run.specs.Searched.{IsNew}
 use Rattle.session_run.specs.Searched as searched
+use Rattle.session_run.specs.Servable.{IsServable}
 use Rattle.session_run.specs.Texts.{IsPatternOf}
 use Rattle.session_run.specs.Transcript.{IsPrefixOf}
 use Rattle.session_run.specs.Walks.{AreSized, CursorAnswer, IsNamedAt, cursor_of, cursors_of}
@@ -39,27 +40,19 @@ still {Made} {IsWorn} {Is} {out} {out'} {items} {items'} {result} e a =
 
 pub fit_as : (old new : Cursors) → new.settings ≡ old.settings → AreSized old.settings.page (opened new) → IsFit old
     → IsFit new
-fit_as old new e sized fit = by (sym e) where
-  by : old.settings ≡ new.settings → IsFit new
-  by f = record {
-    some_workers = subst (λ (s : Settings). 1 ≤ s.workers) f fit.some_workers;
-    few_workers = subst (λ (s : Settings). s.workers ≤ 16) f fit.few_workers;
-    some = subst (λ (s : Settings). 1 ≤ s.page) f fit.some;
-    few = subst (λ (s : Settings). s.page ≤ 256) f fit.few;
-    sized = subst (λ (s : Settings). AreSized s.page (opened new)) f sized;
-  }
+fit_as old new e sized fit = record {
+  servable = subst IsServable (sym e) fit.servable;
+  sized = subst (λ (s : Settings). AreSized s.page (opened new)) (sym e) sized;
+}
 
 pub fit_same : (old new : Cursors) → new.settings ≡ old.settings → opened new ≡ opened old → IsFit old → IsFit new
 fit_same old new e same fit =
     fit_as old new e (subst (λ (l : List rust.Cursor). AreSized old.settings.page l) (sym same) fit.sized) fit
 
-pub fit_new : (s : Settings) (cursors : Cursors) → 1 ≤ s.workers → s.workers ≤ 16 → 1 ≤ s.page → s.page ≤ 256
-    → cursors.settings ≡ s → opened cursors ≡ [] → IsFit cursors
-fit_new s cursors some_workers few_workers some few e none = record {
-  some_workers = subst (λ (t : Settings). 1 ≤ t.workers) (sym e) some_workers;
-  few_workers = subst (λ (t : Settings). t.workers ≤ 16) (sym e) few_workers;
-  some = subst (λ (t : Settings). 1 ≤ t.page) (sym e) some;
-  few = subst (λ (t : Settings). t.page ≤ 256) (sym e) few;
+pub fit_new : (s : Settings) (cursors : Cursors) → IsServable s → cursors.settings ≡ s → opened cursors ≡ []
+    → IsFit cursors
+fit_new s cursors servable e none = record {
+  servable = subst IsServable (sym e) servable;
   sized = subst (λ (l : List rust.Cursor). AreSized cursors.settings.page l) (sym none) tt;
 }
 

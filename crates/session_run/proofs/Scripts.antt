@@ -10,9 +10,9 @@ use Rattle.session_run.specs.Cursors.{Calls}
 use Rattle.session_run.specs.Dialogue.{AreExchanged, Exchange, replies_of, requests_of}
 use Rattle.session_run.specs.Requests.{Request, BeginWith, BeginWithAll, IsPartOfRequest}
 use Rattle.session_run.specs.Served.{IsInputFault, TakesAll, TakesAtMost, TakesExactly, WritesForTaken}
-use Rattle.session_run.specs.Serving.{AnswersTaken, Ends, IsFresh, Script, Serves}
+use Rattle.session_run.specs.Serving.{AnswersTaken, Ends, Script, Serves}
 use Rattle.session_run.specs.Transcript.{IsDialogue, IsPrefixOf, Stops, InAnswer}
-use Rattle.session_run.specs.Turn.{ReadsOn, TakesNone, TakesPart, TakesRequest, Turns}
+use Rattle.session_run.specs.Turn.{IsFresh, ReadsOn, TakesNone, TakesPart, TakesRequest, Turns}
 use Rattle.session_run.specs.Watching.{Standing, nothing_kept}
 use Rattle.session_run.specs.declared.settings.EndStatus.{EndStatus}
 use Rattle.session_run.specs.declared.settings.EndStatus.TheVariants.{Done, SourceFault, SinkFault, NoMemory, InputTooLong, Worn}

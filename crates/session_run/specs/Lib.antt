@@ -12,6 +12,7 @@ pub mod Served
 pub mod Turn
 pub mod Made
 pub mod Opened
+pub mod Servable
 pub mod Walks
 pub mod Responds
 pub mod Serving

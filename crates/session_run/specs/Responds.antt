@@ -1,5 +1,5 @@
 -- For private clauses alone: when requests can be answered, and changes to a text.
-use Rattle.std.specs.Prelude.{◌≡◌, ◌≤◌, Err, ℕ, List, Ok, Result}
+use Rattle.std.specs.Prelude.{◌≡◌, Err, ℕ, List, Ok, Result}
 use Rattle.mol_finish.specs.declared.fault.Format.{Format}
 use Rattle.mol_finish.specs.declared.fault.Format.TheVariants.{Molfile}
 use Rattle.mol_finish.specs.declared.fault.TextFault.{TextFault}
@@ -15,6 +15,7 @@ use Rattle.store_machine.specs.declared.machine.Change.TheVariants as changes
 use Rattle.session_run.specs.Cursors.{Cursor}
 use Rattle.session_run.specs.Opened.{opened}
 use Rattle.session_run.specs.Pins.{AreHeld, SameOthers}
+use Rattle.session_run.specs.Servable.{IsServable}
 use Rattle.session_run.specs.Walks.{AreSized, cursors_of}
 use Rattle.session_run.specs.declared.commands.TextChange.{TextChange}
 use Rattle.session_run.specs.declared.commands.Verb.{Verb}
@@ -23,10 +24,7 @@ use Rattle.session_run.specs.declared.cursors.Cursors.{Cursors}
 
 -- settings within their limits, and the cursors' pages have the size that they name
 pub record IsFit (cursors : Cursors) : Type 0 where
-  pub some_workers : 1 ≤ cursors.settings.workers
-  pub few_workers : cursors.settings.workers ≤ 16
-  pub some : 1 ≤ cursors.settings.page
-  pub few : cursors.settings.page ≤ 256
+  pub servable : IsServable cursors.settings
   pub sized : AreSized cursors.settings.page (opened cursors)
 
 -- the settings and the cursors fit, and the pins of the cursors are held

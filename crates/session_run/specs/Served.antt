@@ -1,13 +1,17 @@
--- For callers: what a session wrote for a script, where the source tells its bytes and the sink what was put.
+-- For callers: what a session wrote for a script, where the source tells its bytes and the sink what was put, and how
+-- it ended.
 use Rattle.std.specs.Prelude.{◌≡◌, ◌≤◌, ℕ, List, [], ◌++◌, length, Option, Some, IfSome}
+use Rattle.io_edge.specs.Faults.{Rose}
 use Rattle.io_edge.specs.Lines.{TextLine, lines_of, whole_lines}
+use Rattle.io_edge.specs.declared.sinks.Sink as sinks
+use Rattle.io_edge.specs.declared.sources.Source as sources
 use Rattle.session_run.specs.Cursors.{Calls, unpins}
 use Rattle.session_run.specs.Dialogue.{AreExchanged, Exchange, replies_of, requests_of}
 use Rattle.session_run.specs.Requests.{AreAllWhole}
 use Rattle.session_run.specs.Transcript.{IsDialogue, IsTranscript, IsTranscriptPrefix, WornAt}
 use Rattle.session_run.specs.Watching.{Standing, nothing_kept}
 use Rattle.session_run.specs.declared.settings.EndStatus.{EndStatus}
-use Rattle.session_run.specs.declared.settings.EndStatus.TheVariants.{Done, InputTooLong, SourceFault, Worn}
+use Rattle.session_run.specs.declared.settings.EndStatus.TheVariants.{Done, InputTooLong, SinkFault, SourceFault, Worn}
 
 -- some text with P was put behind what was put before
 abbrev pub Writes : Option (List ℕ) → Option (List ℕ) → (List ℕ → Type 0) → Type 0
@@ -68,3 +72,13 @@ pub record IsServedBy (end : EndStatus) (size : ℕ) (before after put put' : Op
     : Type 0 where
   pub script : IfSome before (λ bytes. Writes put put' (IsServed end size (lines_of bytes) calls))
   pub taken : IsInputFault end → WritesForTaken before after put put' (IsAllOfTaken size calls)
+
+-- What an end says of the source and the sink: a fault only where one was counted; all bytes were taken where it is
+-- done, exactly the limit where the input is too long, and never more
+pub record EndsAs {S K : Type 0} (source : sources.Ghosts S) (sink : sinks.Ghosts K) (end : EndStatus) (limit : ℕ)
+    (s s' : S) (k k' : K) : Type 0 where
+  pub source_fault : end ≡ SourceFault → Rose (source.faults s) (source.faults s')
+  pub sink_fault : end ≡ SinkFault → Rose (sink.faults k) (sink.faults k')
+  pub done : end ≡ Done → TakesAll (source.left s) (source.left s')
+  pub within : TakesAtMost (source.left s) (source.left s') limit
+  pub too_long : end ≡ InputTooLong → TakesExactly (source.left s) (source.left s') limit

@@ -1,15 +1,14 @@
 -- For private clauses alone: a session before the pins of its open cursors are given back.
-use Rattle.std.specs.Prelude.{◌≡◌, ℕ, List, [], Option, IfSome, false}
-use Rattle.io_edge.specs.Faults.{Rose}
-use Rattle.io_edge.specs.Lines.{Reading, TextLine, lines_of, whole_lines}
+use Rattle.std.specs.Prelude.{◌≡◌, ℕ, List, [], Option, IfSome}
+use Rattle.io_edge.specs.Lines.{TextLine, lines_of, whole_lines}
 use Rattle.session_run.specs.Cursors.{Calls}
 use Rattle.session_run.specs.Dialogue.{AreExchanged, Exchange, replies_of, requests_of}
 use Rattle.session_run.specs.Requests.{AreAllWhole}
-use Rattle.session_run.specs.Served.{IsInputFault, TakesAll, TakesAtMost, TakesExactly, Writes, WritesForTaken}
+use Rattle.session_run.specs.Served.{IsInputFault, Writes, WritesForTaken}
 use Rattle.session_run.specs.Transcript.{IsDialogue, Stops, WornAt}
 use Rattle.session_run.specs.Watching.{Standing, nothing_kept}
 use Rattle.session_run.specs.declared.settings.EndStatus.{EndStatus}
-use Rattle.session_run.specs.declared.settings.EndStatus.TheVariants.{Done, InputTooLong, SinkFault, SourceFault, Worn}
+use Rattle.session_run.specs.declared.settings.EndStatus.TheVariants.{Done, InputTooLong, SourceFault, Worn}
 
 -- all requests that are whole in the bytes that were taken were answered, and nothing else was called or written
 abbrev pub AnswersTaken : ℕ → Calls → Standing → List ℕ → List ℕ → Type 0
@@ -35,20 +34,3 @@ pub record Serves (end : EndStatus) (size : ℕ) (before after put put' : Option
     (standing : Standing) : Type 0 where
   pub script : Script end size before put put' calls standing
   pub taken : IsInputFault end → WritesForTaken before after put put' (AnswersTaken size calls standing)
-
--- What a session's status says of the service, the source and the sink, of whose input it takes so many bytes at most
-pub record EndsAs (end : EndStatus) (limit : ℕ) (IsWorn : Type 0) (before after : Option (List ℕ))
-    (source_faults source_faults' sink_faults sink_faults' : ℕ) : Type 0 where
-  pub worn : end ≡ Worn → IsWorn
-  pub source_fault : end ≡ SourceFault → Rose source_faults source_faults'
-  pub sink_fault : end ≡ SinkFault → Rose sink_faults sink_faults'
-  pub done : end ≡ Done → TakesAll before after
-  pub within : TakesAtMost before after limit
-  pub too_long : end ≡ InputTooLong → TakesExactly before after limit
-
--- nothing was read
-pub record IsFresh (reading : Reading) : Type 0 where
-  pub none : reading.pending ≡ []
-  pub short : reading.long ≡ false
-  pub untaken : reading.taken ≡ 0
-  pub unended : reading.ended ≡ false

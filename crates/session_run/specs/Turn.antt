@@ -1,5 +1,6 @@
--- For private clauses alone: how a source is read on by requests, and what a turn of a session does.
-use Rattle.std.specs.Prelude.{◌≡◌, ◌≤◌, Bool, Err, ℕ, IsTrue, Ok, Option, None, Result, Some, List, [], ◌∷◌, ◌++◌, Contains}
+-- For private clauses alone, those of drill_run too: how a source is read on by requests, and what a turn of a session
+-- does.
+use Rattle.std.specs.Prelude.{◌≡◌, ◌≤◌, Bool, Err, ℕ, IsTrue, Ok, Option, None, Result, Some, List, [], ◌∷◌, ◌++◌, Contains, false}
 use Rattle.std.specs.Io.KnownBytes.{Appends}
 use Rattle.io_edge.specs.Faults.{Rose}
 use Rattle.io_edge.specs.Sink.{AppendsPrefix}
@@ -31,6 +32,13 @@ use Rattle.session_run.specs.declared.settings.EndStatus.TheVariants.{Done, Sour
 abbrev pub end_by : LineFault → EndStatus
 end_by line_faults.Source = SourceFault
 end_by line_faults.TooLong = InputTooLong
+
+-- nothing was read
+pub record IsFresh (reading : Reading) : Type 0 where
+  pub none : reading.pending ≡ []
+  pub short : reading.long ≡ false
+  pub untaken : reading.taken ≡ 0
+  pub unended : reading.ended ≡ false
 
 -- The source was read on: what it left, where it tells, how many bytes were taken, and how often it failed
 pub record ReadsOn (before after : Option (List ℕ)) (faults faults' : ℕ) (old new : Reading) : Type 0 where

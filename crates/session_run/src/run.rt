@@ -8,10 +8,11 @@ ghost use Rattle.session_run.specs.Made.{Uses};
 ghost use Rattle.session_run.specs.Opened.{opened};
 ghost use Rattle.session_run.specs.Requests.{IsPartOfRequest, Request};
 ghost use Rattle.session_run.specs.Responds.{IsFit, IsReady, KeepsPins};
-ghost use Rattle.session_run.specs.Served.{IsInputFault, IsServedBy, TakesAll, TakesAtMost, TakesExactly};
-ghost use Rattle.session_run.specs.Serving.{EndsAs, IsFresh, Serves};
+ghost use Rattle.session_run.specs.Served.{EndsAs, IsInputFault, IsServedBy};
+ghost use Rattle.session_run.specs.Servable.{IsServable};
+ghost use Rattle.session_run.specs.Serving.{Serves};
 ghost use Rattle.session_run.specs.Standings.{standing_of};
-ghost use Rattle.session_run.specs.Turn.{IsNext, Puts, ReadsOn, Replies, TakesNone, TakesPart, TakesRequest, Turns};
+ghost use Rattle.session_run.specs.Turn.{IsFresh, IsNext, Puts, ReadsOn, Replies, TakesNone, TakesPart, TakesRequest, Turns};
 ghost use Rattle.session_run.specs.Walks.{cursors_of};
 
 use crate::matching::Matching;
@@ -36,21 +37,13 @@ pub fn session<R: Threads + Sync, S: Service, I: Source, O: Sink, M: Meter>(
     settings: &Settings,
     meter: &M,
 ) -> EndStatus
-    requires some_workers { 1 ≤ settings.now.workers }
-    requires few_workers { settings.now.workers ≤ 16 }
-    requires some { 1 ≤ settings.now.page }
-    requires few { settings.now.page ≤ 256 }
+    requires servable { IsServable settings.now }
     ensures serves { (calls : Calls) × Makes S.at S.owns S.stretch service.old service.new calls
         × IsServedBy result settings.now.page (I.left source.old) (I.left source.new)
         (O.written sink.old) (O.written sink.new) calls }
     ensures pins { result ≢ EndStatus.Worn → SameHeld (S.holds service.old) (S.holds service.new) }
     ensures worn { result ≡ EndStatus.Worn → S.worn service.new }
-    ensures source_fault { result ≡ EndStatus.SourceFault → Rose (I.faults source.old) (I.faults source.new) }
-    ensures sink_fault { result ≡ EndStatus.SinkFault → Rose (O.faults sink.old) (O.faults sink.new) }
-    ensures done { result ≡ EndStatus.Done → TakesAll (I.left source.old) (I.left source.new) }
-    ensures within { TakesAtMost (I.left source.old) (I.left source.new) settings.now.input_limit }
-    ensures too_long { result ≡ EndStatus.InputTooLong
-        → TakesExactly (I.left source.old) (I.left source.new) settings.now.input_limit }
+    ensures ends { EndsAs I.Source O.Sink result settings.now.input_limit source.old source.new sink.old sink.new }
     ensures bounds { NotRaised (S.bounds service.old) (S.bounds service.new) }
 {
     let Ok(mut lines) = Lines::new(alloc, settings.input_limit) else {
@@ -88,8 +81,8 @@ fn serve<R: Threads + Sync, S: Service, I: Source, O: Sink, M: Meter>(
         (O.written sink.old) (O.written sink.new) calls (standing_of responder.new) }
     ensures pins { result ≢ EndStatus.Worn
         → KeepsPins (S.holds service.old) [] (S.holds service.new) (cursors_of (opened responder.new.cursors)) }
-    ensures ends { EndsAs result lines.old.limit (S.worn service.new) (I.left source.old) (I.left source.new)
-        (I.faults source.old) (I.faults source.new) (O.faults sink.old) (O.faults sink.new) }
+    ensures worn { result ≡ EndStatus.Worn → S.worn service.new }
+    ensures ends { EndsAs I.Source O.Sink result lines.old.limit source.old source.new sink.old sink.new }
 {
     loop {
         if let Some(end) = turn(matching, service, source, sink, lines, responder) {

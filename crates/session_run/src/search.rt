@@ -7,6 +7,7 @@ ghost use Rattle.smarts_parse.specs.Pattern.{pattern_of};
 ghost use Rattle.smarts_parse.specs.Sound.{IsSoundPattern};
 ghost use Rattle.session_run.specs.Made.{AnsweredBy, Uses};
 ghost use Rattle.session_run.specs.Searched.{Begins, IsFaultLine, IsLastLine, IsNew, IsPatternRefusal, PinAnswer, Returns};
+ghost use Rattle.session_run.specs.Servable.{IsServable};
 
 use crate::listing::Walk;
 use crate::matching::Matching;
@@ -30,10 +31,7 @@ pub fn begin<S: Service>(
     pattern: Pattern,
     most: u32,
 ) -> Result<Walk, SearchFault>
-    requires some_workers { 1 ≤ settings.now.workers }
-    requires few_workers { settings.now.workers ≤ 16 }
-    requires some { 1 ≤ settings.now.page }
-    requires few { settings.now.page ≤ 256 }
+    requires servable { IsServable settings.now }
     requires few_pages { most ≤ MOST_PAGES }
     requires sound { IsSoundPattern (pattern_of pattern) }
     ensures begins { Begins (Uses S.Service service.old service.new) (S.worn service.new) result }

@@ -1,9 +1,10 @@
-use Rattle.std.proofs.Common.{subst}
+use Rattle.std.proofs.Common.{subst, sym}
 use Rattle.drill_run.specs.Drilled.{IsDrilledBy}
+use Rattle.session_run.specs.Servable.{IsServable}
 use Rattle.session_run.specs.declared.settings.Settings.{Settings}
+use Rattle.session_run.proofs.Closing.{ends-none}
 use Rattle.store_core.specs.Stored.{empty}
 use Rattle.chem_shell.proofs.Drills.{drilled_none}
-use Rattle.chem_shell.proofs.Transcripts.{none_taken}
 use Rattle.chem_shell.proofs.drill.run_drill.Goals as goal
 
 pub returns-in_default-clause-drills : goal.returns-in_default-clause-drills
@@ -11,8 +12,14 @@ returns-in_default-clause-drills g c =
     drilled_none c.args.plan.now.commits c.args.plan.now.page (g.I.Source.left c.args.source.now)
     (g.O.Sink.written c.args.sink.now)
 
-pub returns-in_default-clause-within : goal.returns-in_default-clause-within
-returns-in_default-clause-within g c = none_taken (g.I.Source.left c.args.source.now) _
+pub returns-in_default-clause-ends : goal.returns-in_default-clause-ends
+returns-in_default-clause-ends g c = ends-none g.I.Source g.O.Sink _ c.args.source.now c.args.sink.now
+
+pub drill-requires-clause-servable : goal.drill-requires-clause-servable
+drill-requires-clause-servable g c _ _ = subst IsServable (sym c.settings.ensures) c.requires.servable
+
+pub returns-clause-ends : goal.returns-clause-ends
+returns-clause-ends g c = rw c.settings.ensures at c.drill.ensures.ends
 
 pub returns-clause-drills : goal.returns-clause-drills
 returns-clause-drills g c =

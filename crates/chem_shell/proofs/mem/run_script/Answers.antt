@@ -1,4 +1,5 @@
 use Rattle.std.proofs.Common.{subst, sym}
+use Rattle.session_run.specs.Servable.{IsServable}
 use Rattle.session_run.specs.Served.{IsServedBy}
 use Rattle.session_run.specs.Truths.{IsInRun}
 use Rattle.session_run.specs.declared.settings.Settings.{Settings}
@@ -9,6 +10,12 @@ use Rattle.chem_shell.proofs.Loaded.{in_run}
 use Rattle.chem_shell.proofs.Transcripts.{served_true}
 use Rattle.chem_shell.proofs.Unfailing.{of_calls}
 use Rattle.chem_shell.proofs.mem.run_script.Goals as goal
+
+pub session-requires-clause-servable : goal.session-requires-clause-servable
+session-requires-clause-servable g c _ _ = subst IsServable (sym c.settings.ensures) c.requires.servable
+
+pub returns-clause-ends : goal.returns-clause-ends
+returns-clause-ends g c = rw c.settings.ensures at c.session.ensures.ends
 
 pub returns-clause-serves : goal.returns-clause-serves
 returns-clause-serves g c =

@@ -1,6 +1,7 @@
 use Rattle.std.proofs.Common.{◌≡◌, ◌∙◌, OnErr, OnOk, map, refl, ap, sym, subst, inr}
 use Rattle.disk_pair.specs.Term.{Paired, disk_a, disk_b}
 use Rattle.journal_core.specs.Looks.{Narrows}
+use Rattle.session_run.specs.Servable.{IsServable}
 use Rattle.session_run.specs.declared.settings.Settings.{Settings}
 use Rattle.serve_ends.specs.Serving.{Serving}
 use Rattle.store_disk.specs.OnDisk.{StoreTerm}
@@ -8,7 +9,6 @@ use Rattle.hall.specs.Passes.{Ends}
 use Rattle.hall.specs.declared.hall.HallPass.{HallPass}
 use Rattle.chem_shell.specs.Ends.{with_status}
 use Rattle.chem_shell.specs.OnDisks.{ServesOn}
-use Rattle.chem_shell.specs.Status.{first_fault}
 use Rattle.chem_shell.specs.Words.{settings_of}
 use Rattle.chem_shell.specs.declared.request.Verb.TheVariants.{Serve}
 use Rattle.chem_shell.proofs.Desks.{end_causes, serves_on, unserved_pair}
@@ -19,6 +19,9 @@ pub start-requires : goal.start-requires
 start-requires g c =
     let o = c.requires.standing in
     record { stands = (o.0, o.1, (c.args.plan.now.commits, o.2)) }
+
+pub serve_ends-ends-requires-clause-servable : goal.serve_ends-ends-requires-clause-servable
+serve_ends-ends-requires-clause-servable g c _ _ = subst IsServable (sym c.settings.ensures) c.requires.plan.servable
 
 pub returns-in-Ok-served : goal.returns-in-Ok-served
 returns-in-Ok-served g c = λ disks read_a read_b.
@@ -48,8 +51,7 @@ returns-in-Ok-served g c = λ disks read_a read_b.
     disks c.args.ends.items r c.requires.verb
     (inr (subst (λ x. ServesOn d g.S.Source.left g.K.Sink.written c.args.plan.now disks x c.args.ends.items r.ends.items)
     (sym c.served.ensures.disks) on)) causes.0 causes.1
-    (c.served.ensures.status ∙ ap (λ v. first_fault (map (λ end. end.status) v.items)) (sym c.served.ensures.ends))
-    c.served.ensures.place
+    c.served.ensures.status c.served.ensures.place
 
 pub returns-in-Err-served : goal.returns-in-Err-served
 returns-in-Err-served g c = λ disks read_a read_b.

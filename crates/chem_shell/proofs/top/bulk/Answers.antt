@@ -1,6 +1,5 @@
-use Rattle.std.proofs.Common.{◌∙◌, ap, map, sym}
+use Rattle.std.proofs.Common.{ap}
 use Rattle.chem_shell.specs.Ends.{ServesBulk}
-use Rattle.chem_shell.specs.Status.{first_fault}
 use Rattle.chem_shell.specs.declared.request.Verb.TheVariants.{Bulk}
 use Rattle.chem_shell.proofs.OneEnd.{end_of_sink, one_done, one_zip, sink_causes}
 use Rattle.chem_shell.proofs.top.bulk.Goals as goal
@@ -24,5 +23,4 @@ returns g c =
     )
     (sink_causes s.left s.faults k.faults old new c.serve_bulk.ensures.serves.status c.serve_bulk.ensures.sink_fault)
     (end_of_sink new.status c.serve_bulk.ensures.serves.status)
-    (c.served.ensures.status ∙ ap (λ v. first_fault (map (λ end. end.status) v.items)) (sym c.served.ensures.ends))
-    c.served.ensures.place
+    c.served.ensures.status c.served.ensures.place

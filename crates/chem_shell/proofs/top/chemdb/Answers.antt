@@ -1,8 +1,7 @@
 use Rattle.std.proofs.Common.{refl, ap, ◌∙◌, sym, inl, inr, Err}
 use Rattle.std.proofs.lemmas.Bool.{eqb-false}
 use Rattle.chem_shell.specs.Contents.{disks_of}
-use Rattle.chem_shell.specs.Ends.{with_status}
-use Rattle.chem_shell.specs.Loading.{HasEndCauses}
+use Rattle.chem_shell.specs.Ends.{HasEndCauses, with_status}
 use Rattle.chem_shell.specs.declared.request.Verb.TheVariants.{Mem, Init, Run, Serve, Bulk, Drill}
 use Rattle.chem_shell.proofs.Asked.{one_plan, plan_within}
 use Rattle.chem_shell.proofs.Drills.{drill_same, drill_unmoved}
@@ -12,17 +11,13 @@ use Rattle.chem_shell.proofs.Transcripts.{mem_same, mem_unmoved}
 use Rattle.chem_shell.proofs.Untouched.{bulk_same, bulk_unmoved, creates_nothing, refused_unmoved, runs_same, serves_same}
 use Rattle.chem_shell.proofs.top.chemdb.Goals as goal
 
-pub returns-in-Err-Usage-clause-source_fault : goal.returns-in-Err-Usage-clause-source_fault
-returns-in-Err-Usage-clause-source_fault g c =
-    zip_mapped _ (with_status 2) (λ e q. absurd (eqb-false 2 3 refl q)) _ _ c.unserved.ensures.ends
-
-pub returns-in-Err-Usage-clause-sink_fault : goal.returns-in-Err-Usage-clause-sink_fault
-returns-in-Err-Usage-clause-sink_fault g c =
-    zip_mapped _ (with_status 2) (λ e q. absurd (eqb-false 2 4 refl q)) _ _ c.unserved.ensures.ends
-
-pub returns-in-Err-Usage-clause-input_too_long : goal.returns-in-Err-Usage-clause-input_too_long
-returns-in-Err-Usage-clause-input_too_long g c =
-    zip_mapped _ (with_status 2) (λ e q. absurd (eqb-false 2 9 refl q)) _ _ c.unserved.ensures.ends
+pub returns-in-Err-Usage-clause-end_causes : goal.returns-in-Err-Usage-clause-end_causes
+returns-in-Err-Usage-clause-end_causes g c =
+    zip_mapped (HasEndCauses g.S.Source.left g.S.Source.faults g.K.Sink.faults) (with_status 2) (λ e. record {
+      source_fault = λ q. absurd (eqb-false 2 3 refl q);
+      sink_fault = λ q. absurd (eqb-false 2 4 refl q);
+      input_too_long = λ q. absurd (eqb-false 2 9 refl q);
+    }) _ _ c.unserved.ensures.ends
 
 pub returns-in-Err-Usage-clause-mem : goal.returns-in-Err-Usage-clause-mem
 returns-in-Err-Usage-clause-mem g c = λ plan asks verb.
@@ -48,17 +43,13 @@ pub returns-in-Err-Usage-clause-drill : goal.returns-in-Err-Usage-clause-drill
 returns-in-Err-Usage-clause-drill g c = λ plan asks verb.
     absurd (c.in-Err-Usage.ensures.usage (ap Err c.in-Err-Usage.field-0-is) (plan, asks))
 
-pub returns-in-Err-NoMemory-clause-source_fault : goal.returns-in-Err-NoMemory-clause-source_fault
-returns-in-Err-NoMemory-clause-source_fault g c =
-    zip_mapped _ (with_status 8) (λ e q. absurd (eqb-false 8 3 refl q)) _ _ c.unserved-in-Err-NoMemory.ensures.ends
-
-pub returns-in-Err-NoMemory-clause-sink_fault : goal.returns-in-Err-NoMemory-clause-sink_fault
-returns-in-Err-NoMemory-clause-sink_fault g c =
-    zip_mapped _ (with_status 8) (λ e q. absurd (eqb-false 8 4 refl q)) _ _ c.unserved-in-Err-NoMemory.ensures.ends
-
-pub returns-in-Err-NoMemory-clause-input_too_long : goal.returns-in-Err-NoMemory-clause-input_too_long
-returns-in-Err-NoMemory-clause-input_too_long g c =
-    zip_mapped _ (with_status 8) (λ e q. absurd (eqb-false 8 9 refl q)) _ _ c.unserved-in-Err-NoMemory.ensures.ends
+pub returns-in-Err-NoMemory-clause-end_causes : goal.returns-in-Err-NoMemory-clause-end_causes
+returns-in-Err-NoMemory-clause-end_causes g c =
+    zip_mapped (HasEndCauses g.S.Source.left g.S.Source.faults g.K.Sink.faults) (with_status 8) (λ e. record {
+      source_fault = λ q. absurd (eqb-false 8 3 refl q);
+      sink_fault = λ q. absurd (eqb-false 8 4 refl q);
+      input_too_long = λ q. absurd (eqb-false 8 9 refl q);
+    }) _ _ c.unserved-in-Err-NoMemory.ensures.ends
 
 pub returns-in-Err-NoMemory-clause-overall : goal.returns-in-Err-NoMemory-clause-overall
 returns-in-Err-NoMemory-clause-overall g c = λ asks some.
@@ -128,20 +119,8 @@ returns-in-Ok-clause-no_plan_disks g c = λ none. absurd (none (c.in-Ok.plan, c.
 pub returns-in-Ok-clause-overall : goal.returns-in-Ok-clause-overall
 returns-in-Ok-clause-overall g c = λ asks some. c.carry_out.ensures.overall some
 
-pub returns-in-Ok-clause-source_fault : goal.returns-in-Ok-clause-source_fault
-returns-in-Ok-clause-source_fault g c =
-    zip_weaker (HasEndCauses g.S.Source.left g.S.Source.faults g.K.Sink.faults) _ (λ old new causes. causes.source_fault)
-    c.args.ends.items c.carry_out.result.ends.items c.carry_out.ensures.end_causes
-
-pub returns-in-Ok-clause-sink_fault : goal.returns-in-Ok-clause-sink_fault
-returns-in-Ok-clause-sink_fault g c =
-    zip_weaker (HasEndCauses g.S.Source.left g.S.Source.faults g.K.Sink.faults) _ (λ old new causes. causes.sink_fault)
-    c.args.ends.items c.carry_out.result.ends.items c.carry_out.ensures.end_causes
-
-pub returns-in-Ok-clause-input_too_long : goal.returns-in-Ok-clause-input_too_long
-returns-in-Ok-clause-input_too_long g c =
-    zip_weaker (HasEndCauses g.S.Source.left g.S.Source.faults g.K.Sink.faults) _ (λ old new causes. causes.input_too_long)
-    c.args.ends.items c.carry_out.result.ends.items c.carry_out.ensures.end_causes
+pub returns-in-Ok-clause-end_causes : goal.returns-in-Ok-clause-end_causes
+returns-in-Ok-clause-end_causes g c = c.carry_out.ensures.end_causes
 
 pub returns-in-Ok-clause-disk_fault : goal.returns-in-Ok-clause-disk_fault
 returns-in-Ok-clause-disk_fault g c = c.carry_out.ensures.causes.disk_fault

@@ -1,6 +1,5 @@
-use Rattle.std.proofs.Common.{◌∙◌, ap, map, sym}
+use Rattle.std.proofs.Common.{ap}
 use Rattle.chem_shell.specs.Drills.{ServesDrill}
-use Rattle.chem_shell.specs.Status.{first_fault}
 use Rattle.chem_shell.specs.declared.request.Verb.TheVariants.{Drill}
 use Rattle.chem_shell.proofs.OneEnd.{one_done, one_zip}
 use Rattle.chem_shell.proofs.top.drill.Goals as goal
@@ -23,5 +22,4 @@ returns g c =
           c.index_mut.ensures.value is (ServesDrill plan s.left k.written) c.serve_drill.ensures.serves,
     )
     c.serve_drill.ensures.causes c.serve_drill.ensures.serves.status
-    (c.served.ensures.status ∙ ap (λ v. first_fault (map (λ end. end.status) v.items)) (sym c.served.ensures.ends))
-    c.served.ensures.place
+    c.served.ensures.status c.served.ensures.place

@@ -1,8 +1,7 @@
-use Rattle.std.proofs.Common.{◌⊎◌, ◌∙◌, ap, map, subst, sym}
+use Rattle.std.proofs.Common.{◌⊎◌, ap, subst, sym}
 use Rattle.chem_shell.specs.Contents.{disks_of}
 use Rattle.chem_shell.specs.Loading.{HasCauses}
 use Rattle.chem_shell.specs.OnDisks.{IsRefused, RunsOn}
-use Rattle.chem_shell.specs.Status.{first_fault}
 use Rattle.chem_shell.proofs.OneEnd.{one_zip, run_done}
 use Rattle.chem_shell.proofs.top.run.Goals as goal
 
@@ -29,5 +28,4 @@ returns g c =
     (subst (λ now. HasCauses d c.args.disks now new.status r.place) back
     (subst (HasCauses d c.args.disks c.serve_run-disks.result.0 new.status) (sym c.served.ensures.place)
     c.serve_run-disks.ensures.causes))
-    c.serve_run-disks.ensures.status
-    (c.served.ensures.status ∙ ap (λ v. first_fault (map (λ end. end.status) v.items)) (sym c.served.ensures.ends))
+    c.serve_run-disks.ensures.status c.served.ensures.status

@@ -1,8 +1,7 @@
-use Rattle.std.proofs.Common.{rules, ◌∙◌, ℕ, List, Option, option_map, codes, sym, subst, refl}
-use Rattle.clap.proofs.WalkLemmas.{first_value-rows, raw_values-rows}
+use Rattle.std.proofs.Common.{rules, ◌∙◌, List, Option, codes, sym, subst, refl}
+use Rattle.clap.proofs.WalkLemmas.{raw_values-rows}
 use Rattle.clap.specs.Words.{Text, found_of}
-use Rattle.store_core.specs.declared.store.TheConstants.{MOST_COMMITS}
-use Rattle.chem_shell.specs.Words.{IsFile, IsSetting}
+use Rattle.chem_shell.specs.Words.{IsFile}
 use Rattle.chem_shell.proofs.Asked.{on_err}
 use Rattle.chem_shell.proofs.words.run.Goals as goal
 
@@ -12,19 +11,9 @@ returns-in_err-file-clause-err c =
     on_err c.from_residual.result (λ plan row. c.in_err-file.ensures.err row.args.word
     (subst (λ (a : Option (List Text)). IsFile a row.args.word) (sym args) row.args.is))
 
-pub returns-in_err-commits-clause-err : goal.returns-in_err-commits-clause-err
-returns-in_err-commits-clause-err c =
-    let text = c.get_str.ensures ∙ first_value-rows (found_of c.args.found.now) (codes "commits") in
-    let none : (n : ℕ) → IsSetting (option_map (λ t. t.now) c.get_str.result) MOST_COMMITS MOST_COMMITS n → ⊥ =
-    c.in_err-commits.ensures.err in
-    on_err c.from_residual-in_err-commits.result
-    (λ plan row. none plan.commits
-    (subst (λ (o : Option Text). IsSetting o MOST_COMMITS MOST_COMMITS plan.commits) (sym text) row.commits))
-
 pub returns-clause-ok : goal.returns-clause-ok
 returns-clause-ok c =
     let args = c.get_raw.ensures ∙ raw_values-rows (found_of c.args.found.now) (codes "args") in
-    let commits = c.get_str.ensures ∙ first_value-rows (found_of c.args.found.now) (codes "commits") in
     record {
       args = record {
         word = c.in_ok-file.file.now;
@@ -32,8 +21,7 @@ returns-clause-ok c =
         file = refl;
       };
       sizes = c.in_ok-workers.ensures.ok;
-      commits = subst (λ (o : Option Text). IsSetting o MOST_COMMITS MOST_COMMITS c.in_ok-commits.commits) commits
-          c.in_ok-commits.ensures.ok;
+      commits = c.in_ok-commits.ensures.ok;
       command = refl;
       ends = refl;
       scripts = search rules;

@@ -1,11 +1,11 @@
-use Rattle.std.proofs.Common.{ap, subst, ℕ}
+use Rattle.std.proofs.Common.{ap, subst}
 use Rattle.io_edge.specs.Lines.{Reading}
 use Rattle.session_run.specs.Cursors.{Calls}
-use Rattle.session_run.specs.Served.{TakesAtMost, TakesExactly}
 use Rattle.session_run.specs.declared.settings.Settings.{Settings}
+use Rattle.session_run.proofs.Closing.{ends-none}
 use Rattle.store_core.specs.Stored.{empty}
 use Rattle.drill_run.specs.Drilled.{IsDrilledBy, Runs}
-use Rattle.drill_run.proofs.Scripts.{drilled-none, fresh, takes_nothing}
+use Rattle.drill_run.proofs.Scripts.{drilled-none, fresh}
 use Rattle.drill_run.proofs.run.drill.Goals as goal
 
 pub serve-requires-clause-ready : goal.serve-requires-clause-ready
@@ -32,20 +32,15 @@ returns-clause-drills g c =
     (g.O.Sink.written c.args.sink.now) (g.O.Sink.written c.serve.new.sink) calls) c.in-Ok-new.ensures.settings
     c.serve.ensures.drills
 
-pub returns-in_default-clause-within : goal.returns-in_default-clause-within
-returns-in_default-clause-within g c =
-    takes_nothing (g.I.Source.left c.args.source.now) c.args.settings.now.input_limit
+pub returns-in_default-clause-ends : goal.returns-in_default-clause-ends
+returns-in_default-clause-ends g c =
+    ends-none g.I.Source g.O.Sink c.args.settings.now.input_limit c.args.source.now c.args.sink.now
 
-pub returns-in_default-new-clause-within : goal.returns-in_default-new-clause-within
-returns-in_default-new-clause-within g c =
-    takes_nothing (g.I.Source.left c.args.source.now) c.args.settings.now.input_limit
+pub returns-in_default-new-clause-ends : goal.returns-in_default-new-clause-ends
+returns-in_default-new-clause-ends g c =
+    ends-none g.I.Source g.O.Sink c.args.settings.now.input_limit c.args.source.now c.args.sink.now
 
-pub returns-clause-within : goal.returns-clause-within
-returns-clause-within g c =
-    subst (λ (n : ℕ). TakesAtMost (g.I.Source.left c.args.source.now) (g.I.Source.left c.serve.new.source) n)
-    (ap (λ (r : Reading). r.limit) c.in-Ok.ensures) c.serve.ensures.within
-
-pub returns-clause-too_long : goal.returns-clause-too_long
-returns-clause-too_long g c = λ e.
-    subst (λ (n : ℕ). TakesExactly (g.I.Source.left c.args.source.now) (g.I.Source.left c.serve.new.source) n)
-    (ap (λ (r : Reading). r.limit) c.in-Ok.ensures) (c.serve.ensures.too_long e)
+pub returns-clause-ends : goal.returns-clause-ends
+returns-clause-ends g c =
+    let limit = ap (λ (r : Reading). r.limit) c.in-Ok.ensures in
+    rw limit at c.serve.ensures.ends

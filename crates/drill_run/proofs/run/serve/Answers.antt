@@ -54,21 +54,14 @@ returns-in-Err-clause-drills g c =
     c.loop-after.world (kept_in c.loop-after.sessions.responders.items) (g.O.Sink.written c.loop-after.sink)
     (g.O.Sink.written c.turn.new.sink) c.in-Err.end) i.settings then.ends) on.0 on.1
 
-pub returns-in-Err-clause-source_fault : goal.returns-in-Err-clause-source_fault
-returns-in-Err-clause-source_fault g c = λ e.
-    rose-since _ _ _ c.loop-after.invariant.source_count (c.in-Err.ensures.source_fault (ap Err e))
-
-pub returns-in-Err-clause-sink_fault : goal.returns-in-Err-clause-sink_fault
-returns-in-Err-clause-sink_fault g c = λ e.
-    rose-since _ _ _ c.loop-after.invariant.sink_count (c.in-Err.ensures.sink_fault (ap Err e))
-
-pub returns-in-Err-clause-done : goal.returns-in-Err-clause-done
-returns-in-Err-clause-done g c = λ e.
-    takes_whole c.loop-after.invariant.under_way c.in-Err.ensures.reads (c.in-Err.ensures.ended (ap Err e))
-
-pub returns-in-Err-clause-within : goal.returns-in-Err-clause-within
-returns-in-Err-clause-within g c = takes_within c.loop-after.invariant.under_way c.in-Err.ensures.reads
-
-pub returns-in-Err-clause-too_long : goal.returns-in-Err-clause-too_long
-returns-in-Err-clause-too_long g c = λ e.
-    takes_all c.loop-after.invariant.under_way c.in-Err.ensures.reads (c.in-Err.ensures.too_long (ap Err e))
+pub returns-in-Err-clause-ends : goal.returns-in-Err-clause-ends
+returns-in-Err-clause-ends g c =
+    let i = c.loop-after.invariant in
+    let then = c.in-Err.ensures in
+    record {
+      source_fault = λ e. rose-since _ _ _ i.source_count (then.source_fault (ap Err e));
+      sink_fault = λ e. rose-since _ _ _ i.sink_count (then.sink_fault (ap Err e));
+      done = λ e. takes_whole i.under_way then.reads (then.ended (ap Err e));
+      within = takes_within i.under_way then.reads;
+      too_long = λ e. takes_all i.under_way then.reads (then.too_long (ap Err e));
+    }

@@ -19,11 +19,7 @@ returns g c =
       ended = c.session-ended.result;
       status = c.end_status-end.ensures;
       served = serves.2;
-      done = c.session-ended.ensures.done;
-      within = c.session-ended.ensures.within;
-      too_long = c.session-ended.ensures.too_long;
-      source_fault = c.session-ended.ensures.source_fault;
-      sink_fault = c.session-ended.ensures.sink_fault;
+      ends = c.session-ended.ensures.ends;
     })
     (λ w. c.session-ended.ensures.worn
     (worn-from c.session-ended.result c.end_status-end.result c.end_status-end.ensures w))

@@ -107,12 +107,16 @@ returns-in-Some-clause-pins g c = λ n.
     i.pins (turn_keeps g.S.Service middle last _ _ _ here there _ _ (Some c.in-Some.end) c.in-Some.ensures.turns
     (λ e. n (some-end c.in-Some.end _ e)) i.pins.are_held)
 
+pub returns-in-Some-clause-worn : goal.returns-in-Some-clause-worn
+returns-in-Some-clause-worn g c = λ e.
+    let t = rw e at c.in-Some.ensures.turns in
+    t.0.worn.worn
+
 pub returns-in-Some-clause-ends : goal.returns-in-Some-clause-ends
 returns-in-Some-clause-ends g c =
     let i = c.loop-end.invariant in
     let then = c.in-Some.ensures in
     record {
-      worn = λ e. let t = rw e at then.turns in t.0.worn.worn;
       source_fault = λ e. Rose-since _ _ _ i.source_count (then.source_fault (ap Some e));
       sink_fault = λ e. Rose-since _ _ _ i.sink_count (then.sink_fault (ap Some e));
       done = λ e. takes_whole i.under_way.2 then.reads (then.ended (ap Some e));

@@ -6,7 +6,7 @@ use Rattle.session_run.specs.Opened.{opened}
 use Rattle.session_run.specs.Pins.{HeldAfter}
 use Rattle.session_run.specs.Standings.{standing_of}
 use Rattle.session_run.specs.Walks.{cursors_of}
-use Rattle.session_run.proofs.Closing.{served-closed, served-closing, served-none, served-worn, takes_nothing}
+use Rattle.session_run.proofs.Closing.{ends-none, ends-worn, served-closed, served-closing, served-none, served-worn}
 use Rattle.session_run.proofs.Held.{same_others, same_others-more}
 use Rattle.session_run.proofs.Joined.{uses-more, uses-none}
 use Rattle.session_run.proofs.Opening.{fit_new, returned_part, unpins_others}
@@ -21,9 +21,9 @@ returns-in_default-clause-serves g c = (
   served-none c.args.settings.now.page (g.I.Source.left c.args.source.now) (g.O.Sink.written c.args.sink.now),
 )
 
-pub returns-in_default-clause-within : goal.returns-in_default-clause-within
-returns-in_default-clause-within g c =
-    takes_nothing (g.I.Source.left c.args.source.now) c.args.settings.now.input_limit
+pub returns-in_default-clause-ends : goal.returns-in_default-clause-ends
+returns-in_default-clause-ends g c =
+    ends-none g.I.Source g.O.Sink c.args.settings.now.input_limit c.args.source.now c.args.sink.now
 
 pub returns-in_default-new-clause-serves : goal.returns-in_default-new-clause-serves
 returns-in_default-new-clause-serves g c = (
@@ -32,14 +32,14 @@ returns-in_default-new-clause-serves g c = (
   served-none c.args.settings.now.page (g.I.Source.left c.args.source.now) (g.O.Sink.written c.args.sink.now),
 )
 
-pub returns-in_default-new-clause-within : goal.returns-in_default-new-clause-within
-returns-in_default-new-clause-within g c =
-    takes_nothing (g.I.Source.left c.args.source.now) c.args.settings.now.input_limit
+pub returns-in_default-new-clause-ends : goal.returns-in_default-new-clause-ends
+returns-in_default-new-clause-ends g c =
+    ends-none g.I.Source g.O.Sink c.args.settings.now.input_limit c.args.source.now c.args.sink.now
 
 pub serve-end-requires-clause-fit : goal.serve-end-requires-clause-fit
 serve-end-requires-clause-fit g c _ _ =
-    fit_new c.args.settings.now c.in-Ok-new.responder.cursors c.requires.some_workers c.requires.few_workers
-    c.requires.some c.requires.few c.in-Ok-new.ensures.settings c.in-Ok-new.ensures.none
+    fit_new c.args.settings.now c.in-Ok-new.responder.cursors c.requires.servable c.in-Ok-new.ensures.settings
+    c.in-Ok-new.ensures.none
 
 pub serve-end-requires-clause-fresh : goal.serve-end-requires-clause-fresh
 serve-end-requires-clause-fresh g c _ _ = fresh c.in-Ok.lines c.args.settings.now.input_limit c.in-Ok.ensures
@@ -57,12 +57,12 @@ returns-in-Worn-clause-serves g c =
     (u.0, u.1.makes, served-worn _ _ _ _ _ u.0 (standing_of c.serve-end.new.responder) s)
 
 pub returns-in-Worn-clause-worn : goal.returns-in-Worn-clause-worn
-returns-in-Worn-clause-worn g c = λ e. c.serve-end.ensures.ends.worn c.in-Worn.is
+returns-in-Worn-clause-worn g c = λ e. c.serve-end.ensures.worn c.in-Worn.is
 
-pub returns-in-Worn-clause-within : goal.returns-in-Worn-clause-within
-returns-in-Worn-clause-within g c =
+pub returns-in-Worn-clause-ends : goal.returns-in-Worn-clause-ends
+returns-in-Worn-clause-ends g c =
     let limit = ap (λ (r : Reading). r.limit) c.in-Ok.ensures in
-    rw limit at c.serve-end.ensures.ends.within
+    ends-worn (rw limit at c.serve-end.ensures.ends)
 
 pub returns-in-Worn-clause-bounds : goal.returns-in-Worn-clause-bounds
 returns-in-Worn-clause-bounds g c = c.serve-end.ensures.serves.1.bounds
@@ -95,15 +95,10 @@ returns-in-Ok-close_all-clause-pins g c = λ n.
 pub returns-in-Ok-close_all-clause-worn : goal.returns-in-Ok-close_all-clause-worn
 returns-in-Ok-close_all-clause-worn g c = λ e. absurd (c.in_default-end.not-Worn e)
 
-pub returns-in-Ok-close_all-clause-within : goal.returns-in-Ok-close_all-clause-within
-returns-in-Ok-close_all-clause-within g c =
+pub returns-in-Ok-close_all-clause-ends : goal.returns-in-Ok-close_all-clause-ends
+returns-in-Ok-close_all-clause-ends g c =
     let limit = ap (λ (r : Reading). r.limit) c.in-Ok.ensures in
-    rw limit at c.serve-end.ensures.ends.within
-
-pub returns-in-Ok-close_all-clause-too_long : goal.returns-in-Ok-close_all-clause-too_long
-returns-in-Ok-close_all-clause-too_long g c = λ e.
-    let limit = ap (λ (r : Reading). r.limit) c.in-Ok.ensures in
-    rw limit at (c.serve-end.ensures.ends.too_long e)
+    rw limit at c.serve-end.ensures.ends
 
 pub returns-in-Ok-close_all-clause-bounds : goal.returns-in-Ok-close_all-clause-bounds
 returns-in-Ok-close_all-clause-bounds g c =
@@ -132,10 +127,10 @@ returns-clause-worn g c = λ e.
     c.in-Err.ensures in
     p.3
 
-pub returns-clause-within : goal.returns-clause-within
-returns-clause-within g c =
+pub returns-clause-ends : goal.returns-clause-ends
+returns-clause-ends g c =
     let limit = ap (λ (r : Reading). r.limit) c.in-Ok.ensures in
-    rw limit at c.serve-end.ensures.ends.within
+    ends-worn (rw limit at c.serve-end.ensures.ends)
 
 pub returns-clause-bounds : goal.returns-clause-bounds
 returns-clause-bounds g c =

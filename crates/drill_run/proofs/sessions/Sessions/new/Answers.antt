@@ -18,8 +18,8 @@ loop-preserved c =
     subst (λ (n : ℕ). AreNew c.args.settings n c.push.new.self.items) (sym (add-one c.loop.counter))
     (subst (λ (l : List Responder). AreNew c.args.settings (suc c.loop.counter) l) (sym c.in_ok-push.ensures.items)
     (new-more c.args.settings c.loop.counter c.loop.responders.items responder c.loop.invariant
-    (session-new c.args.settings responder c.requires.some_workers c.requires.few_workers c.requires.some
-    c.requires.few c.in_ok-responder.ensures.settings c.in_ok-responder.ensures.none)
+    (session-new c.args.settings responder c.requires.servable c.in_ok-responder.ensures.settings
+    c.in_ok-responder.ensures.none)
     (keeps-none responder c.in_ok-responder.ensures.none c.in_ok-responder.ensures.unwatched)))
 
 pub returns-clause-none : goal.returns-clause-none

@@ -10,13 +10,13 @@ use Rattle.drill_run.specs.Views.{kept_in}
 use Rattle.drill_run.proofs.Answering.{opened-by, unopened}
 use Rattle.drill_run.proofs.sessions.Sessions.reopen.Goals as goal
 
-pub returns-in-Ok : goal.returns-in-Ok
-returns-in-Ok c = λ line reads.
+pub returns : goal.returns
+returns c = λ line reads.
     let left = c.say_version.ensures.responders in
     opened-by c.args.self.now c.say_version.new.self c.args.world line c.args.image c.requires.ready c.requires.empty
-    reads c.in-Ok.world (left_on (disk_a c.args.world.pair) c.args.image)
-    (left_on (disk_b c.args.world.pair) c.args.image) c.in-Ok.version c.in-Ok.ensures.opens
-    c.in-Ok.ensures.no_failures
+    reads c.in_ok-world.world (left_on (disk_a c.args.world.pair) c.args.image)
+    (left_on (disk_b c.args.world.pair) c.args.image) c.in_ok-world.version c.in_ok-world.ensures.opens
+    c.in_ok-world.ensures.no_failures
     (ap (λ (l : Vec Responder Global). length l.items) left ∙ c.forget.ensures.number)
     (subst (λ (l : Vec Responder Global). AllByRecursion (IsSessionOf c.args.self.now.settings) l.items) (sym left)
     c.forget.ensures.fit)
@@ -24,7 +24,7 @@ returns-in-Ok c = λ line reads.
     (c.say_version.ensures.settings ∙ c.forget.ensures.settings) c.say_version.result
     (rw c.forget.ensures.out at c.say_version.ensures.ok)
 
-pub returns-in-Err : goal.returns-in-Err
-returns-in-Err c = λ line reads.
+pub returns-in_err-world : goal.returns-in_err-world
+returns-in_err-world c = λ line reads.
     unopened c.args.self.now c.args.self.now c.args.world line c.args.image c.requires.ready c.requires.empty
-    reads c.in-Err.fault
+    reads c.from_residual.result c.from_residual.ensures.0

@@ -6,6 +6,7 @@ use Rattle.smarts_parse.specs.Pattern.{pattern_of}
 use Rattle.session_run.specs.Acts.{Fault, MayOpen, Refused}
 use Rattle.session_run.specs.Cursors.{IsNoName}
 use Rattle.session_run.specs.Opened.{named, opened}
+use Rattle.session_run.specs.Servable.{IsServable}
 use Rattle.session_run.specs.Walks.{AreSized, cursors_of}
 use Rattle.session_run.specs.declared.cursors.Cursor as rust
 use Rattle.session_run.specs.declared.settings.Settings.{Settings}
@@ -40,6 +41,9 @@ returns-in_default-clause-answered g c =
 pub returns-in_default-clause-fit : goal.returns-in_default-clause-fit
 returns-in_default-clause-fit g c =
     fit_same c.args.self.now c.room_for.new.self c.room_for.ensures.settings c.room_for.ensures.same c.requires.fit
+
+pub begin-requires-clause-servable : goal.begin-requires-clause-servable
+begin-requires-clause-servable g c = subst IsServable (sym c.room_for.ensures.settings) c.requires.fit.servable
 
 pub add-requires : goal.add-requires
 add-requires g c = record {
