@@ -11,4 +11,4 @@ returns g c =
     c.in-Some-Copy.carry c.self.view_is (cc (c.take.ensures.value, c.in-Some-Copy.is, c.in-Some-Copy.field-0-is))
     (λ h. h.commits ≡ []) (λ h. with_base h c.args.payload.now) c.put_base-other.result.0 c.put_base-other.result.1
     said.adds in
-    record { gives = it.gives; current = it.current; goes = it.goes; progress = search rules }
+    search rules
