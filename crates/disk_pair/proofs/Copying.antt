@@ -9,7 +9,7 @@ use Rattle.journal_core.specs.declared.header.Header.{Header}
 use Rattle.compact_core.specs.Carrying.{Carrying}
 use Rattle.disk_pair.specs.Gives.{CopyGives, CurrentStays, EndsOlder, FinishGives, OnFault, PairGoes, StartGives, empty_copy}
 use Rattle.disk_pair.specs.Pairs.{History, Loses, MayShow, PairOpensTo, State, with_commit}
-use Rattle.disk_pair.specs.Puts.{BesideCopy, BesideFault, BesideStart, OtherMoments, ShowsDoubt, held}
+use Rattle.disk_pair.specs.Puts.{AddsTo, BesideCopy, BesideFault, BesideStart, OtherMoments, ShowsDoubt, held}
 use Rattle.disk_pair.specs.Stands.{Beside, Carries, StandsFor}
 use Rattle.disk_pair.specs.Term.{AtEachPair, Goes, OfEachPair, Paired, disk_of, first_of}
 use Rattle.disk_pair.specs.declared.fault.PutFault.{PutFault}
@@ -219,20 +219,15 @@ module _ {D : Type 0} (model : DiskModel D) (only_now : (d : D) (c : List ℕ)
   is = was old journal second inside (Copy carry) view taken
 
   pub adds : (P : History → Type 0) (longer : History → History) (new : Other D) (result : Result (Unit {0}) PutFault)
-      → ((second : Bool) (g : ℕ) (h : History) → P h → Carries model g carry h
-      → BesideCopy result (λ copy. Beside model second g None copy new) h (longer h))
-      → ((second : Bool) (g : ℕ) (h : History) → Carries model g carry h
-      → OtherMoments model carry.disk (disk_of new) second g None)
-      → Goes model carry.disk (disk_of new) → OnFault result (Faulted model carry.disk (disk_of new))
-      → Adds model result old (paired journal new second) P longer
-  adds P longer new result gives moments goes cause = record {
+      → AddsTo model result carry new P longer → Adds model result old (paired journal new second) P longer
+  adds P longer new result to = record {
     gives = rw is (λ s copy st has p.
         copy_gives model journal second s carry st copy (longer copy) has new result
-        (gives second s.now.header.generation copy p (carried model journal second s carry st copy has)));
+        (to.gives second s.now.header.generation copy p (carried model journal second s carry st copy has)));
     current = current_stays model only_now journal second old (Copy carry) new is (λ s st.
         copy_moments model journal second s carry st (disk_of new)
-        (moments second s.now.header.generation (running model journal second s carry st)));
-    goes = other_goes model journal second old (Copy carry) new result is goes cause;
+        (to.moments second s.now.header.generation (running model journal second s carry st)));
+    goes = other_goes model journal second old (Copy carry) new result is to.goes to.cause;
   }
 
   pub refused_finish : (new : Other D) (fault : PutFault)

@@ -1,5 +1,5 @@
 -- Two disks are opened.
-use Rattle.std.proofs.Common.{◌≡◌, inl, inr, ◌<◌, ◌≤◌, [], Bool, false, true, ℕ, List, Some, None, sym, ◌∙◌, ap, subst, arith}
+use Rattle.std.proofs.Common.{◌≡◌, inl, inr, ◌<◌, ◌≤◌, [], Bool, false, true, ℕ, List, Option, Some, None, sym, ◌∙◌, ap, subst, arith}
 use Rattle.disk_edge.specs.Disk.{DiskModel, Exactly, IfTold}
 use Rattle.journal_core.proofs.FrontLaws.{at_front, one_generation, part_peeked}
 use Rattle.journal_core.specs.Fronts.{IsHeader, IsOpen, IsOpenAt, IsPart, IsPeeked}

@@ -25,9 +25,11 @@ module _ {D : Type 0} (model : DiskModel D) (old new : Standing D) where
       → (fr : List ℕ) (ps : List (List ℕ)) (doubt : Option (List ℕ)) → Has model old fr ps doubt
       → Has model new fr ps doubt
   unsettled untold flag stays ok fr ps None h = apart (sym flag ∙ h.0)
-  unsettled untold flag stays ok fr ps (Some p) h =
-      (stays, λ l is. let k = told_before (model.content old.disk) (model.content new.disk) untold l is in
-      ok fr ps p (h.1 k.0 k.1))
+  unsettled untold flag stays ok fr ps (Some p) h = (
+    stays,
+    λ l is. let k = told_before (model.content old.disk) (model.content new.disk) untold l is in
+        ok fr ps p (h.1 k.0 k.1),
+  )
 
 -- what holds at each fault
 pub on_fault : {T P Q R : Type 0} (r : Result T DiskFail) → (P → Q → R) → OnFailed r P → OnNoMemory r P → OnErr r Q

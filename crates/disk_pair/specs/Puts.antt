@@ -6,9 +6,10 @@ use Rattle.disk_edge.specs.declared.disk.DiskFail.{DiskFail}
 use Rattle.journal_core.specs.Records.{Opens}
 use Rattle.journal_core.specs.Standing.{Standing}
 use Rattle.journal_core.specs.declared.header.Header.{Header}
-use Rattle.disk_pair.specs.Gives.{empty_copy}
+use Rattle.compact_core.specs.Carrying.{Carrying}
+use Rattle.disk_pair.specs.Gives.{OnFault, empty_copy}
 use Rattle.disk_pair.specs.Pairs.{History, Loses, OpensAs}
-use Rattle.disk_pair.specs.Stands.{Beside}
+use Rattle.disk_pair.specs.Stands.{Beside, Carries}
 use Rattle.disk_pair.specs.Term.{Goes, disk_of, progress_of}
 use Rattle.disk_pair.specs.declared.other.Other.{Other}
 use Rattle.disk_pair.specs.declared.other.Other.TheVariants.{Idle}
@@ -72,6 +73,17 @@ BesideCopy (Ok _) B old new = B (Some new)
 BesideCopy (Err (DiskFault true)) B old new = ⊥
 BesideCopy (Err (DiskFault false)) B old new = B None
 BesideCopy (Err NoMemory) B old new = B (Some old)
+
+-- What a call that adds to a running copy leaves of it. A copy that has P gets longer, or is given up, or stays. At no
+-- moment an image of its disk is read.
+pub record AddsTo {D : Type 0} (model : DiskModel D) (result : Result (Unit {0}) PutFault) (carry : Carrying D)
+    (new : Other D) (P : History → Type 0) (longer : History → History) : Type 0 where
+  pub gives : (second : Bool) (g : ℕ) (h : History) → P h → Carries model g carry h
+      → BesideCopy result (λ copy. Beside model second g None copy new) h (longer h)
+  pub moments : (second : Bool) (g : ℕ) (h : History) → Carries model g carry h
+      → OtherMoments model carry.disk (disk_of new) second g None
+  pub goes : Goes model carry.disk (disk_of new)
+  pub cause : OnFault result (Faulted model carry.disk (disk_of new))
 
 -- after a finish that was refused
 abbrev pub BesideFault : PutFault → (Option History → Option History → Type 0) → History → Type 0

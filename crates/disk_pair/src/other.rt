@@ -7,7 +7,7 @@ ghost use Rattle.journal_core.specs.Journal.{Rests};
 ghost use Rattle.journal_core.specs.Records.{IsShort};
 ghost use Rattle.disk_pair.specs.Gives.{OnFault, progress_after};
 ghost use Rattle.disk_pair.specs.Pairs.{History, with_base, with_commit};
-ghost use Rattle.disk_pair.specs.Puts.{BesideCopy, BesideFault, BesideStart, EndsFinish, OtherMoments, after_finish};
+ghost use Rattle.disk_pair.specs.Puts.{AddsTo, BesideFault, BesideStart, EndsFinish, OtherMoments, after_finish};
 ghost use Rattle.disk_pair.specs.Stands.{Beside, Carries};
 ghost use Rattle.disk_pair.specs.Term.{Goes, disk_of, progress_of};
 ghost use Rattle.disk_pair.specs.declared.other.Other.TheVariants.{Idle, Copy};
@@ -124,20 +124,14 @@ pub(crate) fn put_base<D: Disk>(carry: Carry<D>, payload: &[u8]) -> (Other<D>, R
     requires few { IsShort payload.now }
     requires room { carry.place < 2 ^ 62 }
 
-    ensures gives { (second : Bool) (g : ℕ) (h : History) → h.commits ≡ []
-        → Carries D.model g carry h
-        → BesideCopy result.1 (λ copy. Beside D.model second g None copy result.0)
-        h (with_base h payload.now) }
-    ensures moments { (second : Bool) (g : ℕ) (h : History) → Carries D.model g carry h
-        → OtherMoments D.model carry.disk (disk_of result.0) second g None }
+    ensures adds { AddsTo D.model result.1 carry result.0 (λ h. h.commits ≡ [])
+        (λ h. with_base h payload.now) }
     ensures progress { progress_of result.0 ≡ progress_after result.1
         (progress_of (Copy carry)) (Some (record {
           header = carry.header;
           place = carry.place + 4 + length payload.now;
           bases = carry.bases + 1;
         })) }
-    ensures goes { Goes D.model carry.disk (disk_of result.0) }
-    ensures cause { OnFault result.1 (Faulted D.model carry.disk (disk_of result.0)) }
 {
     let mut carry = carry;
     match carry.put(payload) {
@@ -154,19 +148,14 @@ pub(crate) fn add<D: Disk>(carry: Carry<D>, payload: &[u8]) -> (Other<D>, Result
     requires few { IsShort payload.now }
     requires room { carry.place < 2 ^ 62 }
 
-    ensures gives { (second : Bool) (g : ℕ) (h : History) → Carries D.model g carry h
-        → BesideCopy result.1 (λ copy. Beside D.model second g None copy result.0)
-        h (with_commit h payload.now) }
-    ensures moments { (second : Bool) (g : ℕ) (h : History) → Carries D.model g carry h
-        → OtherMoments D.model carry.disk (disk_of result.0) second g None }
+    ensures adds { AddsTo D.model result.1 carry result.0 (λ _. Unit {0})
+        (λ h. with_commit h payload.now) }
     ensures progress { progress_of result.0 ≡ progress_after result.1
         (progress_of (Copy carry)) (Some (record {
           header = carry.header;
           place = carry.place + 5 + length payload.now;
           bases = carry.bases;
         })) }
-    ensures goes { Goes D.model carry.disk (disk_of result.0) }
-    ensures cause { OnFault result.1 (Faulted D.model carry.disk (disk_of result.0)) }
 {
     let mut carry = carry;
     match carry.add(payload) {

@@ -9,8 +9,7 @@ returns g c =
     let said = c.add-other.ensures in
     let it = adds g.D.Disk.model g.met.D.Disk.only_now c.args.self.now inside.journal inside.second inside.other
     c.in-Some-Copy.carry c.self.view_is (cc (c.take.ensures.value, c.in-Some-Copy.is, c.in-Some-Copy.field-0-is))
-    (λ _. Unit {0}) (λ h. with_commit h c.args.payload.now) c.add-other.result.0 c.add-other.result.1
-    (λ side k h _. said.gives side k h) said.moments said.goes said.cause in
+    (λ _. Unit {0}) (λ h. with_commit h c.args.payload.now) c.add-other.result.0 c.add-other.result.1 said.adds in
     record {
       gives = λ s copy st has. it.gives s copy st has tt;
       current = it.current;

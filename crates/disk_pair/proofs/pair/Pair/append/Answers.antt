@@ -10,34 +10,14 @@ returns-in-Err-Failed g c =
     let it = refused_append g.D.Disk.model g.met.D.Disk.only_now c.args.self.now c.end_finish.new.self said.journal
     said.second c.args.payload.now (Err (DiskFault false)) said.ends
     (rw c.in-Err-Failed.field-0-is at said.ends.cause) (λ s older. older) in
-    record {
-      gives = it.gives;
-      acknowledged = tt;
-      moments = it.moments;
-      goes = it.goes;
-      moved = tt;
-      stays = search rules;
-      header = search rules;
-      progress = said.ends.progress;
-      second = said.second;
-    }
+    search rules
 
 pub returns-in-Err-NoMemory : goal.returns-in-Err-NoMemory
 returns-in-Err-NoMemory g c =
     let said = c.in-Err-NoMemory.ensures in
     let it = refused_append g.D.Disk.model g.met.D.Disk.only_now c.args.self.now c.end_finish.new.self said.journal
     said.second c.args.payload.now (Err NoMemory) said.ends tt (λ s older. older) in
-    record {
-      gives = it.gives;
-      acknowledged = tt;
-      moments = it.moments;
-      goes = it.goes;
-      moved = tt;
-      stays = search rules;
-      header = search rules;
-      progress = said.ends.progress;
-      second = said.second;
-    }
+    search rules
 
 pub returns : goal.returns
 returns g c =

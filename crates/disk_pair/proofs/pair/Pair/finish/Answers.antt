@@ -38,14 +38,4 @@ returns-in-Err g c =
     inside.other c.in-Some-Copy.carry c.self.view_is
     (cc (c.take.ensures.value, c.in-Some-Copy.is, c.in-Some-Copy.field-0-is))
     c.in-Err.other c.in-Err.fault said.err said.moments said.goes said.cause in
-    record {
-      gives = it.gives;
-      acknowledged = tt;
-      moments = it.moments;
-      goes = it.goes;
-      moved = tt;
-      stays = search rules;
-      progress = search rules;
-      second = tt;
-      same = search rules;
-    }
+    search rules

@@ -10,5 +10,5 @@ returns g c =
     let it = adds g.D.Disk.model g.met.D.Disk.only_now c.args.self.now inside.journal inside.second inside.other
     c.in-Some-Copy.carry c.self.view_is (cc (c.take.ensures.value, c.in-Some-Copy.is, c.in-Some-Copy.field-0-is))
     (λ h. h.commits ≡ []) (λ h. with_base h c.args.payload.now) c.put_base-other.result.0 c.put_base-other.result.1
-    said.gives said.moments said.goes said.cause in
-    record { gives = it.gives; current = it.current; goes = it.goes; progress = search rules }
+    said.adds in
+    search rules
