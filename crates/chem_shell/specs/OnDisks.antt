@@ -48,8 +48,8 @@ pub record Creates {D : Type 0} (model : DiskModel D) (old new : Disks D) (statu
 -- images that the disks had. One at a moment of a step leaves of each disk an image of a moment of that step; each two
 -- open to each commit that was acknowledged before it, in order, and at most one more. Now each two images open to the
 -- run's history, or to this and the commit in doubt, or to a copy whose finish is in doubt or under way. The counts of
--- faults in the run's states are the disks'; only a commit and a copy call a disk, and are answered that one failed only
--- where one counted a fault
+-- faults in the run's states are the disks'; only a commit and a copy call a disk, and are answered that one failed
+-- only where one counted a fault
 pub record AreOnDisks {D : Type 0} (model : DiskModel D) (commits : ℕ) (old new : Disks D) (calls : Calls) : Type 0
   where
     pub first : State
@@ -87,8 +87,8 @@ pub record RunsOn {D S K : Type 0} (model : DiskModel D) (left : S → Option (L
   pub on : AreOnDisks model plan.commits disks disks' calls
   pub script : ServesScript left written plan.page calls on.last.history old new
 
--- What a session at a desk leaves of an end, by its calls and the history of their run. Where the hall had no turns left,
--- the first replies of a transcript were written, and from the call that was not answered on nothing was
+-- What a session at a desk leaves of an end, by its calls and the history of their run. Where the hall had no turns
+-- left, the first replies of a transcript were written, and from the call that was not answered on nothing was
 pub record ServesAtDesk {S K : Type 0} (left : S → Option (List ℕ)) (written : K → Option (List ℕ)) (page : ℕ)
     (calls : Calls) (history : History) (old new : End S K) : Type 0 where
   pub served : new.status ≢ WORN → ServesScript left written page calls history old new
@@ -105,8 +105,8 @@ AreAtDesks left written page steps history owner (old ∷ olds) (new ∷ news) =
     ServesAtDesk left written page (calls_of (has (owner ∷ [])) steps) history old new
     × AreAtDesks left written page steps history (suc owner) olds news
 
--- `serve` after the store was loaded: there is one run on the disks, and each end has the steps of one owner, from 1 on;
--- no step is of another. An end is worn only where the run has a step for each of the hall's turns
+-- `serve` after the store was loaded: there is one run on the disks, and each end has the steps of one owner, from 1
+-- on; no step is of another. An end is worn only where the run has a step for each of the hall's turns
 pub record ServesOn {D S K : Type 0} (model : DiskModel D) (left : S → Option (List ℕ))
     (written : K → Option (List ℕ)) (plan : Plan) (disks disks' : Disks D) (old new : List (End S K)) : Type 0 where
   pub calls : Calls

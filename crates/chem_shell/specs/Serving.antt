@@ -16,7 +16,8 @@ use Rattle.serve_ends.specs.declared.status.TheConstants.{DONE, SINK_FAULT, NO_M
 -- a session put this of a script by these calls, and the history is true of it
 pub record IsScriptServed (ended : EndStatus) (page : ℕ) (input left before after : Option (List ℕ)) (calls : Calls)
     (history : History) : Type 0 where
-  pub script : IfSome input (λ bytes. Writes before after (λ text. session.IsServed ended page (lines_of bytes) calls text
+  pub script : IfSome input (λ bytes. Writes before after (λ text.
+      session.IsServed ended page (lines_of bytes) calls text
       × IsTrueService ended history page (lines_of bytes) calls text))
   pub taken : session.IsInputFault ended → WritesForTaken input left before after (session.IsAllOfTaken page calls)
 

@@ -27,7 +27,8 @@ abbrev pub calls_told : Told → List (Event × Reply)
 calls_told told.Nothing = []
 calls_told (told.Commit change answer) = commit_calls change.value answer.value
 calls_told (told.Pin answer) = pin_calls answer.value
-calls_told (told.Fetch slot want from limit page answer) = fetch_calls slot want.value from limit page.value.records answer.value
+calls_told (told.Fetch slot want from limit page answer) =
+    fetch_calls slot want.value from limit page.value.records answer.value
 calls_told (told.Unpin slot answer) = unpin_calls slot answer.value
 calls_told (told.Prune answer) = prune_calls answer.value
 calls_told (told.Look id answer) = look_calls id answer.value

@@ -47,8 +47,8 @@ module _ {D : Type 0} where
     pub own : has (known p).numbers owner ≡ true
     pub held : Holds (after origin.state (known p).seen) slot owner version
 
-  -- What the pass has seen is a run without a crash from where its hall's history begins, of no more events than the hall
-  -- has turns. It is so of the first pass, and stays so at desks, by splits and by joins
+  -- What the pass has seen is a run without a crash from where its hall's history begins, of no more events than the
+  -- hall has turns. It is so of the first pass, and stays so at desks, by splits and by joins
   pub record Runs (p : HallPass D) : Type 0 where
     pub origin : Origin D
     pub of : IsFrom origin p

@@ -13,8 +13,8 @@ use store_core::{
     CallFault, Change, CommitFault, Compact, CompactFault, Look, Page, Service, Stats, Steps,
 };
 
-/// A pass at its hall. Each call waits for a turn and is one event of the hall's history, which begins with all that the
-/// pass had seen; the pass has then seen that history and its event. Each call is answered `Worn` exactly where the
+/// A pass at its hall. Each call waits for a turn and is one event of the hall's history, which begins with all that
+/// the pass had seen; the pass has then seen that history and its event. Each call is answered `Worn` exactly where the
 /// hall's turns were all taken: it is then no event.
 pub struct Desk<'h, R: Wait, D: Disk> {
     rt: &'h R,

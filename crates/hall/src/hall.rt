@@ -16,8 +16,8 @@ pub struct Hall<D: Disk> {
     pub(crate) gate: Gate<Kept<D>>,
 }
 
-/// What its holder has seen of a hall's history. It takes no bytes. A hall is never closed without the numbers of a pass
-/// that was dropped.
+/// What its holder has seen of a hall's history. It takes no bytes. A hall is never closed without the numbers of a
+/// pass that was dropped.
 #[derive(Drop)]
 pub struct HallPass<D: Disk> {
     pub(crate) pass: Pass<Kept<D>>,
@@ -31,9 +31,9 @@ impl<D: Disk + Drop> Hall<D> {
     ghost use Rattle.turn_gate.specs.Steps.{giving, given_to};
     ghost use Rattle.hall.specs.Passes.{Begins, Ends, HasBoth, HoldsNone, HoldsPin, IsOf, IsRoot, IsWhole, Merged, Runs, known};
 
-    /// A hall of a store that was just opened, and its root pass, which is whole and has seen no event. The hall has 2^63
-    /// turns. Its history begins at one state for which the store stands, as an opening leaves it. An error gives the
-    /// store back.
+    /// A hall of a store that was just opened, and its root pass, which is whole and has seen no event. The hall has
+    /// 2^63 turns. Its history begins at one state for which the store stands, as an opening leaves it. An error gives
+    /// the store back.
     pub fn start(
         alloc: Global,
         store: Store<D>,
