@@ -6,22 +6,23 @@ use Rattle.disk_edge.specs.declared.disk.DiskFail.{DiskFail}
 use Rattle.disk_edge.specs.declared.disk.DiskFail.TheVariants.{Failed, NoMemory}
 
 -- Each image is an old one, torn; and each old one is still one.
-pub record Left (at n : ℕ) (old new : List ℕ → Type 0) : Type 0 where
-  pub from : (c : List ℕ) → new c → (d : List ℕ) × old d × Torn at n d c
-  pub stays : (c : List ℕ) → old c → new c
+pub record Left {D : Type 0} (model : DiskModel D) (old new : D) (at n : ℕ) : Type 0 where
+  pub from : (c : List ℕ) → model.images new c → (d : List ℕ) × model.images old d × Torn at n d c
+  pub stays : (c : List ℕ) → model.images old c → model.images new c
 
-pub left_torn : (at n : ℕ) (old new : List ℕ → Type 0) → Tears at n old new → Left at n old new
-left_torn at n old new t = record { from = t.from; stays = λ c i. t.all c c i (torn_same at n c) }
+module _ {D : Type 0} (model : DiskModel D) (old new : D) (at n : ℕ) where
+  pub left_torn : Tears at n (model.images old) (model.images new) → Left model old new at n
+  left_torn t = record { from = t.from; stays = λ c i. t.all c c i (torn_same at n c) }
 
-left_same : (at n : ℕ) (old new : List ℕ → Type 0) → Same old new → Left at n old new
-left_same at n old new s = record { from = λ c i. (c, s.no_more c i, torn_same at n c); stays = s.no_fewer }
+  left_same : Same (model.images old) (model.images new) → Left model old new at n
+  left_same s = record { from = λ c i. (c, s.no_more c i, torn_same at n c); stays = s.no_fewer }
 
-pub left_by : (at n : ℕ) (old new : List ℕ → Type 0) (result : Result (Unit {0}) DiskFail)
-    → OnOk result (Tears at n old new) → OnFailed result (Tears at n old new) → OnNoMemory result (Same old new)
-    → Left at n old new
-left_by at n old new (Ok _) ok failed none = left_torn at n old new ok
-left_by at n old new (Err Failed) ok failed none = left_torn at n old new failed
-left_by at n old new (Err NoMemory) ok failed none = left_same at n old new none
+  pub left_by : (result : Result (Unit {0}) DiskFail) → OnOk result (Tears at n (model.images old) (model.images new))
+      → OnFailed result (Tears at n (model.images old) (model.images new))
+      → OnNoMemory result (Same (model.images old) (model.images new)) → Left model old new at n
+  left_by (Ok _) ok failed none = left_torn ok
+  left_by (Err Failed) ok failed none = left_torn failed
+  left_by (Err NoMemory) ok failed none = left_same none
 
 done : (at : ℕ) (bytes : List ℕ) (old new : Option (List ℕ)) → Becomes old new (written at bytes)
     → TearsContent at (length bytes) old new

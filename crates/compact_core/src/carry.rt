@@ -263,7 +263,7 @@ impl<D: Disk> Carry<D> {
 }
 
 impl Carry<MemDisk> {
-    /// So many calls of the disk pass, and then each fails. Takes no memory.
+    /// The next `calls` calls of the disk pass, and then each fails. Takes no memory.
     pub fn stop_after(&mut self, calls: u64)
         ensures { self.new ≡ record self.old {
           disk = record self.old.disk {
@@ -274,7 +274,7 @@ impl Carry<MemDisk> {
         self.disk.stop_after(calls);
     }
 
-    /// The call of the disk of this number from now, counted from 1, fails. Takes no memory.
+    /// Call number `call` of the disk from now on, counted from 1, fails. Takes no memory.
     pub fn fail_once(&mut self, call: u64)
         ensures { self.new ≡ record self.old {
           disk = record self.old.disk {
@@ -289,7 +289,7 @@ impl Carry<MemDisk> {
 // Shuts the disk, and writes the header behind its gate.
 fn begin<D: Disk>(alloc: Global, disk: &mut D, header: Header) -> Result<(), DiskFail>
     ensures ok { OnOk result (IfTold (D.model.content disk.old)
-        (λ _. Started (D.model.content disk.new) (D.model.images disk.new) header)) }
+        (λ _. Started D.model disk.new header)) }
     ensures long { OnOk result (IfTold (D.model.content disk.new) (λ l. 20 ≤ length l)) }
     ensures refused { OnErr result (IfTold (D.model.content disk.old)
         (λ _. IsShut (D.model.images disk.new)

@@ -1,11 +1,12 @@
 //! The gate of a disk's header is closed.
 
 ghost use Rattle.std.specs.Prelude.{◌≡◌, ◌≢◌, ◌≤◌, ◌⊎◌, ℕ, List, [], ◌∷◌, take, length, Some, None, true, false, OnOk, OnErr, IfOk};
-ghost use Rattle.disk_edge.specs.Disk.{IfTold, Exactly, Keeps, OnFailed, Counted, Faulted};
+ghost use Rattle.disk_edge.specs.Disk.{IfTold, Keeps, OnFailed, Counted, Faulted};
 ghost use Rattle.disk_edge.specs.Moments.{AtEachMoment};
 ghost use Rattle.journal_core.specs.Fronts.{IsOpen, IsShut};
 ghost use Rattle.journal_core.specs.Looks.{Looks};
 ghost use Rattle.journal_core.specs.declared.format.TheConstants.{OPEN};
+ghost use Rattle.compact_core.specs.Copies.{IsSynced};
 
 use disk_edge::{Disk, DiskFail};
 use journal_core::{CLOSED, OPEN};
@@ -34,8 +35,7 @@ pub fn shut<D: Disk>(disk: &mut D) -> Result<(), DiskFail>
 
 /// The same, and with `fill` a disk without bytes gets a closed gate.
 pub(crate) fn close<D: Disk>(disk: &mut D, fill: bool) -> Result<(), DiskFail>
-    ensures synced { OnOk result
-        (IfTold (D.model.content disk.new) (λ l. Exactly l (D.model.images disk.new))) }
+    ensures synced { OnOk result (IsSynced D.model disk.new) }
     ensures closed { OnOk result (IfTold (D.model.content disk.new)
         (λ l. (take 1 l ≢ OPEN ∷ []) × (fill ≡ true → 1 ≤ length l))) }
     ensures stays { OnErr result
@@ -80,7 +80,7 @@ fn close_gate<D: Disk>(disk: &mut D, fill: bool) -> Result<(), DiskFail>
     }
 }
 
-// Whether the gate is open, or with `fill` missing.
+// Whether the gate is open; with `fill`, also whether it is missing.
 fn must_close<D: Disk>(disk: &mut D, fill: bool) -> Result<bool, DiskFail>
     ensures open { IfOk result (λ yes. IfTold (D.model.content disk.old)
         (λ l. yes ≡ true → (take 1 l ≡ OPEN ∷ []) ⊎ (l ≡ []))) }

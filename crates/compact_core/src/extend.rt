@@ -1,10 +1,10 @@
 //! Bytes are written behind those of a disk that stand behind one gate.
 
 ghost use Rattle.std.specs.Prelude.{◌≡◌, ◌<◌, ◌≤◌, ◌+◌, ◌^◌, ℕ, List, [], ◌∷◌, ◌++◌, take, length, Some, None, OnOk, OnErr};
-ghost use Rattle.disk_edge.specs.Disk.{IfTold, Exactly, Keeps, OnFailed, Counted, Faulted};
+ghost use Rattle.disk_edge.specs.Disk.{IfTold, Keeps, OnFailed, Counted, Faulted};
 ghost use Rattle.disk_edge.specs.Moments.{AtEachMoment};
 ghost use Rattle.journal_core.specs.declared.format.TheConstants.{CLOSED};
-ghost use Rattle.compact_core.specs.Copies.{Gathered, Stands};
+ghost use Rattle.compact_core.specs.Copies.{Gathered, IsSynced, Stands};
 
 use disk_edge::{Disk, DiskFail};
 use journal_core::CLOSED;
@@ -15,19 +15,19 @@ pub(crate) fn extend<D: Disk>(disk: &mut D, place: u64, bytes: &[u8]) -> Result<
     requires end { place + length bytes.now < 2 ^ 63 }
 
     ensures ok { OnOk result ((gate : ℕ) (tail : List ℕ)
-        → Stands (D.model.content disk.old) (D.model.images disk.old) gate tail → place ≡ length tail + 1
-        → Stands (D.model.content disk.new) (D.model.images disk.new) gate (tail ++ bytes.now)) }
+        → Stands D.model disk.old gate tail → place ≡ length tail + 1
+        → Stands D.model disk.new gate (tail ++ bytes.now)) }
     ensures reaches { OnOk result (IfTold (D.model.content disk.new)
         (λ l. place + length bytes.now ≤ length l)) }
     ensures long { IfTold (D.model.content disk.new) (λ l. place ≤ length l) }
     ensures stays { OnErr result ((gate : ℕ) (tail : List ℕ)
-        → Stands (D.model.content disk.old) (D.model.images disk.old) gate tail → place ≡ length tail + 1
-        → Stands (D.model.content disk.new) (D.model.images disk.new) gate tail) }
+        → Stands D.model disk.old gate tail → place ≡ length tail + 1
+        → Stands D.model disk.new gate tail) }
     ensures moments { (gate : ℕ) (tail : List ℕ)
-        → Stands (D.model.content disk.old) (D.model.images disk.old) gate tail → place ≡ length tail + 1
+        → Stands D.model disk.old gate tail → place ≡ length tail + 1
         → AtEachMoment D.model disk.old disk.new (λ c. take 1 c ≡ gate ∷ []) }
     ensures each { (gate : ℕ) (tail : List ℕ)
-        → Stands (D.model.content disk.old) (D.model.images disk.old) gate tail → place ≡ length tail + 1
+        → Stands D.model disk.old gate tail → place ≡ length tail + 1
         → (c : List ℕ) → D.model.images disk.new c → take 1 c ≡ gate ∷ [] }
     ensures told { IfTold (D.model.content disk.old)
         (λ _. (l : List ℕ) × (D.model.content disk.new ≡ Some l)) }
@@ -48,9 +48,8 @@ pub(crate) fn seal<D: Disk>(disk: &mut D, place: u64, pending: &mut Vec<u8>) -> 
 
     ensures ok { OnOk result ((gate : ℕ) (tail : List ℕ)
         → Gathered D.model disk.old gate tail pending.old.items → place ≡ length tail + 1
-        → Stands (D.model.content disk.new) (D.model.images disk.new) gate (tail ++ CLOSED ∷ [])) }
-    ensures synced { OnOk result
-        (IfTold (D.model.content disk.new) (λ l. Exactly l (D.model.images disk.new))) }
+        → Stands D.model disk.new gate (tail ++ CLOSED ∷ [])) }
+    ensures synced { OnOk result (IsSynced D.model disk.new) }
     ensures reaches { OnOk result (IfTold (D.model.content disk.new) (λ l. place < length l)) }
     ensures long { IfTold (D.model.content disk.new)
         (λ l. place ≤ length l + length pending.old.items) }
@@ -81,7 +80,7 @@ fn extend_closed<D: Disk>(disk: &mut D, place: u64, pending: &mut Vec<u8>) -> Re
 
     ensures ok { OnOk result ((gate : ℕ) (tail : List ℕ)
         → Gathered D.model disk.old gate tail pending.old.items → place ≡ length tail + 1
-        → Stands (D.model.content disk.new) (D.model.images disk.new) gate (tail ++ CLOSED ∷ [])) }
+        → Stands D.model disk.new gate (tail ++ CLOSED ∷ [])) }
     ensures reaches { OnOk result (IfTold (D.model.content disk.new) (λ l. place < length l)) }
     ensures long { IfTold (D.model.content disk.new)
         (λ l. place ≤ length l + length pending.old.items) }

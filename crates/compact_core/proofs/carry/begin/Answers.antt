@@ -1,4 +1,4 @@
-use Rattle.std.proofs.Common.{[], List, ℕ, inl, refl, subst, ◌∙◌, arith}
+use Rattle.std.proofs.Common.{[], List, ℕ, inl, subst, ◌∙◌, arith}
 use Rattle.disk_edge.specs.Moments.{two_calls}
 use Rattle.journal_core.specs.Fronts.{IsOpen}
 use Rattle.compact_core.specs.Copies.{Stands}
@@ -13,13 +13,11 @@ returns-clause-ok g c = ok_then c.extend.result c.extend.ensures.ok (λ written 
     let mid = c.close.new.disk in
     let new = c.extend.new.disk in
     let close = c.in_ok-close.ensures in
-    let k = close.told l told in
-    let closed = close.closed k.0 k.1 in
-    let s = closed_stands (d.content mid) (d.images mid) k.0 k.1 (close.synced k.0 k.1) closed.0 (closed.1 refl) in
+    let s = closed_stands d mid (close.told l told) close.synced close.closed in
     record {
       gate = s.gate;
       shut = s.shut;
-      stands = subst (Stands (d.content new) (d.images new) s.gate) (c.deref.ensures.value ∙ c.in_ok-bytes.ensures)
+      stands = subst (Stands d new s.gate) (c.deref.ensures.value ∙ c.in_ok-bytes.ensures)
           (written s.gate [] s.stands (omega arith));
     })
 
@@ -28,9 +26,7 @@ returns-clause-refused g c = always_err c.extend.result (λ l told.
     let d = g.D.Disk.model in
     let mid = c.close.new.disk in
     let close = c.in_ok-close.ensures in
-    let k = close.told l told in
-    let closed = close.closed k.0 k.1 in
-    let s = closed_stands (d.content mid) (d.images mid) k.0 k.1 (close.synced k.0 k.1) closed.0 (closed.1 refl) in
+    let s = closed_stands d mid (close.told l told) close.synced close.closed in
     inl (λ x i. not_open s.gate x s.shut (c.extend.ensures.each s.gate [] s.stands (omega arith) x i)))
 
 pub returns-clause-no_new : goal.returns-clause-no_new
@@ -38,9 +34,7 @@ returns-clause-no_new g c l told x i is_open =
     let d = g.D.Disk.model in
     let mid = c.close.new.disk in
     let close = c.in_ok-close.ensures in
-    let k = close.told l told in
-    let closed = close.closed k.0 k.1 in
-    let s = closed_stands (d.content mid) (d.images mid) k.0 k.1 (close.synced k.0 k.1) closed.0 (closed.1 refl) in
+    let s = closed_stands d mid (close.told l told) close.synced close.closed in
     absurd (not_open s.gate x s.shut (c.extend.ensures.each s.gate [] s.stands (omega arith) x i) is_open)
 
 pub returns-clause-moments : goal.returns-clause-moments
@@ -50,9 +44,7 @@ returns-clause-moments g c l told =
     let mid = c.close.new.disk in
     let new = c.extend.new.disk in
     let close = c.in_ok-close.ensures in
-    let k = close.told l told in
-    let closed = close.closed k.0 k.1 in
-    let s = closed_stands (d.content mid) (d.images mid) k.0 k.1 (close.synced k.0 k.1) closed.0 (closed.1 refl) in
+    let s = closed_stands d mid (close.told l told) close.synced close.closed in
     two_calls d old mid new (λ (y : List ℕ). IsOpen y → d.images old y)
     (g.met.D.Disk.parts new) close.past.later c.extend.ensures.past (close.moments l told)
     (λ y m is_open. absurd (not_open s.gate y s.shut

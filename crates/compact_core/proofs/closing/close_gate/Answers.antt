@@ -7,9 +7,8 @@ use Rattle.compact_core.proofs.closing.close_gate.Goals as goal
 
 pub returns-then-branch-clause-stays : goal.returns-then-branch-clause-stays
 returns-then-branch-clause-stays g c x i =
-    let d = g.D.Disk.model in
     let w = c.write_at.ensures in
-    let left = left_by 0 1 (d.images c.must_close.new.disk) (d.images c.write_at.new.self) c.write_at.result w.images
+    let left = left_by g.D.Disk.model c.must_close.new.disk c.write_at.new.self 0 1 c.write_at.result w.images
     w.failed_images w.no_memory_images in
     left.stays x (c.in_ok-must_close.ensures.looks.no_fewer x i)
 
@@ -18,8 +17,8 @@ returns-then-branch-clause-no_new g c l told x i is_open =
     let d = g.D.Disk.model in
     let old = c.args.disk.now in
     let w = c.write_at.ensures in
-    let left = left_by 0 1 (d.images c.must_close.new.disk) (d.images c.write_at.new.self) c.write_at.result w.images
-    w.failed_images w.no_memory_images in
+    let left = left_by d c.must_close.new.disk c.write_at.new.self 0 1 c.write_at.result w.images w.failed_images
+    w.no_memory_images in
     let t = left.from x i in
     gate_written (d.images old) l (λ y e. g.met.D.Disk.loose old l y e 0 told)
     (c.in_ok-must_close.ensures.open l told c.if-branch.true) t.0 x

@@ -6,13 +6,11 @@ use Rattle.compact_core.proofs.extend.extend.Goals as goal
 
 pub returns-clause-ok : goal.returns-clause-ok
 returns-clause-ok g c =
-    let d = g.D.Disk.model in
-    let old = c.args.disk.now in
-    let new = c.write_at.new.self in
     let w = c.write_at.ensures in
+    let bytes = c.args.bytes.now in
     both_ok c.write_at.result w.written w.images (λ becomes tears gate tail stands at.
-    stands_written (d.content old) (d.content new) (d.images old) (d.images new) gate tail c.args.place stands at
-    c.args.bytes.now becomes (left_torn c.args.place (length c.args.bytes.now) (d.images old) (d.images new) tears))
+    stands_written stands at bytes becomes
+    (left_torn g.D.Disk.model c.args.disk.now c.write_at.new.self c.args.place (length bytes) tears))
 
 pub returns-clause-stays : goal.returns-clause-stays
 returns-clause-stays g c =
@@ -21,23 +19,16 @@ returns-clause-stays g c =
     let new = c.write_at.new.self in
     let w = c.write_at.ensures in
     let n = length c.args.bytes.now in
-    always_err c.write_at.result (λ gate tail stands at.
-    stands_torn (d.content old) (d.content new) (d.images old) (d.images new) gate tail c.args.place stands at n
+    always_err c.write_at.result (λ gate tail stands at. stands_torn stands at n
     (content_by c.args.place c.args.bytes.now (d.content old) (d.content new) c.write_at.result w.written
     w.failed_content w.no_memory_content)
-    (left_by c.args.place n (d.images old) (d.images new) c.write_at.result w.images w.failed_images
-    w.no_memory_images))
+    (left_by d old new c.args.place n c.write_at.result w.images w.failed_images w.no_memory_images))
 
 pub returns-clause-each : goal.returns-clause-each
 returns-clause-each g c gate tail stands at =
-    let d = g.D.Disk.model in
-    let old = c.args.disk.now in
-    let new = c.write_at.new.self in
     let w = c.write_at.ensures in
-    let n = length c.args.bytes.now in
-    each_kept (d.content old) (d.content new) (d.images old) (d.images new) gate tail c.args.place stands at n
-    (left_by c.args.place n (d.images old) (d.images new) c.write_at.result w.images w.failed_images
-    w.no_memory_images)
+    each_kept stands at (left_by g.D.Disk.model c.args.disk.now c.write_at.new.self c.args.place
+    (length c.args.bytes.now) c.write_at.result w.images w.failed_images w.no_memory_images)
 
 pub returns-clause-moments : goal.returns-clause-moments
 returns-clause-moments g c gate tail stands at x m = elim (c.write_at.ensures.time.during x m) [

@@ -1,7 +1,6 @@
-use Rattle.std.proofs.Common.{◌≡◌, ◌∙◌, ◌∷◌, ◌++◌, [], List, ℕ, Option, OnOk, inl, inr, refl, take, sym, subst}
+use Rattle.std.proofs.Common.{◌≡◌, ◌∙◌, ◌∷◌, [], List, ℕ, Option, OnOk, inl, inr, refl, take, sym, subst}
 use Rattle.disk_edge.specs.Disk.{Exactly, IfTold}
 use Rattle.disk_edge.specs.Moments.{two_calls}
-use Rattle.journal_core.specs.declared.format.TheConstants.{CLOSED}
 use Rattle.compact_core.proofs.Gathering.{still_pending}
 use Rattle.compact_core.proofs.Results.{ok_then}
 use Rattle.compact_core.proofs.Tails.{stands_still}
@@ -16,21 +15,13 @@ returns-clause-synced g c =
 
 pub returns-clause-ok : goal.returns-clause-ok
 returns-clause-ok g c = ok_then c.sync.result c.sync.ensures.synced (λ _ gate tail gathered at.
-    let d = g.D.Disk.model in
-    let mid = c.extend_closed.new.disk in
-    let new = c.sync.new.self in
-    stands_still (d.content mid) (d.content new) (d.images mid) (d.images new) gate (tail ++ CLOSED ∷ [])
-    c.sync.ensures.content c.sync.ensures.no_new (c.in_ok-extend_closed.ensures.ok gate tail gathered at))
+    stands_still (c.in_ok-extend_closed.ensures.ok gate tail gathered at) c.sync.ensures.content
+    c.sync.ensures.no_new)
 
 pub returns-clause-stays : goal.returns-clause-stays
 returns-clause-stays g c gate tail gathered at =
-    let d = g.D.Disk.model in
-    let mid = c.extend_closed.new.disk in
-    let new = c.sync.new.self in
     let left = c.in_ok-extend_closed.ensures.stays gate tail gathered at in
-    still_pending d mid gate tail c.args.pending.now.items left new c.args.pending.now.items refl
-    (stands_still (d.content mid) (d.content new) (d.images mid) (d.images new) gate left.written
-    c.sync.ensures.content c.sync.ensures.no_new left.stands)
+    still_pending left refl (stands_still left.stands c.sync.ensures.content c.sync.ensures.no_new)
 
 pub returns-clause-moments : goal.returns-clause-moments
 returns-clause-moments g c gate tail gathered at =

@@ -1,4 +1,4 @@
-use Rattle.std.proofs.Common.{◌∷◌, ◌++◌, List, ℕ, [], sym, subst, arith}
+use Rattle.std.proofs.Common.{◌∷◌, List, ℕ, sym, subst, arith}
 use Rattle.journal_core.specs.Fronts.{IsOpen}
 use Rattle.journal_core.specs.RecordLaws.{all_short}
 use Rattle.journal_core.specs.Records.{body}
@@ -18,14 +18,11 @@ returns-clause-ok g c base commits q =
     let r = subst (λ (k : Carrying g.row.D.Denot). Copies d k base commits) (sym c.self.view_is) q in
     let h = c.self.inside.header in
     let p = c.args.payload.now in
-    let tail = tail_of h base commits in
     record {
       gate = r.gate;
       shut = r.shut;
-      gathered = more_pending d c.make_room.new.disk r.gate tail c.make_room.new.pending.items
-          (c.make_room.ensures.stays r.gate tail r.gathered r.place) (OPEN ∷ body p)
-          (tail_of h base (commits ++ p ∷ [])) c.push_commit.new.pending.items (add_tail h base commits p)
-          c.push_commit.ensures;
+      gathered = more_pending (c.make_room.ensures.stays r.gate (tail_of h base commits) r.gathered r.place)
+          (OPEN ∷ body p) (add_tail h base commits p) c.push_commit.ensures;
       place = omega (arith, r.place, length-add_tail h base commits p);
       bases = r.bases;
       fit = r.fit;

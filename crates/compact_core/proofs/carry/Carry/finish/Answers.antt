@@ -47,8 +47,7 @@ returns-in-Err-NoMemory-put-clause-memory g c base commits q =
     let mid = c.seal.new.disk in
     let new = c.put.new.disk in
     let r = subst (λ (k : Carrying g.row.D.Denot). Copies d k base commits) (sym c.carry.view_is) q in
-    let tail = tail_of c.carry.inside.header base commits in
-    let left = c.seal.ensures.stays r.gate tail r.gathered r.place in
+    let left = c.seal.ensures.stays r.gate (tail_of c.carry.inside.header base commits) r.gathered r.place in
     let none = c.in-Err-NoMemory-put in
     let same = at_no_memory none.field-0 (Same (d.images mid) (d.images new)) none.field-0-is none.ensures.no_memory in
     let still = at_no_memory none.field-0 (d.content new ≡ d.content mid) none.field-0-is
@@ -56,9 +55,7 @@ returns-in-Err-NoMemory-put-clause-memory g c base commits q =
     record {
       gate = r.gate;
       shut = r.shut;
-      gathered = still_pending d mid r.gate tail c.carry.inside.pending.items left new c.seal.new.pending.items
-          c.seal.ensures.pending (stands_still (d.content mid) (d.content new) (d.images mid) (d.images new) r.gate
-          left.written still same.no_more left.stands);
+      gathered = still_pending left c.seal.ensures.pending (stands_still left.stands still same.no_more);
       place = r.place;
       bases = r.bases;
       fit = r.fit;

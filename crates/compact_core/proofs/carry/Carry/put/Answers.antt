@@ -1,4 +1,4 @@
-use Rattle.std.proofs.Common.{◌∷◌, ◌++◌, List, ℕ, [], sym, subst, arith, length-append}
+use Rattle.std.proofs.Common.{◌∷◌, List, ℕ, [], sym, subst, arith, length-append}
 use Rattle.journal_core.specs.Fronts.{IsOpen}
 use Rattle.journal_core.specs.RecordLaws.{all_short}
 use Rattle.journal_core.specs.Records.{body}
@@ -17,13 +17,11 @@ returns-clause-ok g c base q =
     let r = subst (λ (k : Carrying g.row.D.Denot). Copies d k base []) (sym c.self.view_is) q in
     let h = c.self.inside.header in
     let p = c.args.payload.now in
-    let tail = tail_of h base [] in
     record {
       gate = r.gate;
       shut = r.shut;
-      gathered = more_pending d c.make_room.new.disk r.gate tail c.make_room.new.pending.items
-          (c.make_room.ensures.stays r.gate tail r.gathered r.place) (body p)
-          (tail_of h (base ++ p ∷ []) []) c.push_base.new.pending.items (put_tail h base p) c.push_base.ensures;
+      gathered = more_pending (c.make_room.ensures.stays r.gate (tail_of h base []) r.gathered r.place) (body p)
+          (put_tail h base p) c.push_base.ensures;
       place = omega (arith, r.place, length-put_tail h base p);
       bases = omega (arith, r.bases, length-append base (p ∷ []));
       fit = all_short base p r.fit c.requires.few;
