@@ -175,8 +175,7 @@ pub record Listing (Made : Calls → Type 0) (begun now : SearchTerm) (tried cou
   pub answered : whole ≡ true → ArePages pages
 
 -- a search was listed to its end, or was cut short, or the service was worn
-pub data Listed (Made : Calls → Type 0) (IsWorn : Type 0) (old new : Walk) (out out' : List ℕ)
-    : Result Bool Stop → Type 0
+pub data Listed (Made : Calls → Type 0) (IsWorn : Type 0) (old new : Walk) (out out' : List ℕ) : Result Bool Stop → Type 0
   where
     Whole : (all : Listing Made old.search new.search new.tried new.hits out true out') (ended : new.search.place ≡ End)
         → Listed Made IsWorn old new out out' (Ok true)
