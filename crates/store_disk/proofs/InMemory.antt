@@ -79,7 +79,7 @@ beside-still f second g finish copy (Copy carry) h =
             shut = k.shut;
             gathered = record {
               written = k.gathered.written;
-              stands = k.gathered.stands;
+              stands = let d = k.gathered.stands in record { rest = d.rest; is_told = d.is_told; each = d.each };
               is = k.gathered.is;
             };
             place = k.place;

@@ -5,7 +5,6 @@ mod Compacts
 mod Copies
 mod Damaged
 mod Finishes
-mod Followed
 mod Fronts
 mod Goes
 mod Going

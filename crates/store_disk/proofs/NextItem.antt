@@ -1,5 +1,5 @@
--- What a call on the pair gives of a copy's next item.
-use Rattle.std.proofs.Common.{◌≡◌, ◌+◌, ◌≤◌, ◌∙◌, ap, arith, Bool, drop, Err, false, get_or, length, List, [], ◌∷◌, map, None, Option, option_map, Result, Some, subst, sym, true, Vec, ℕ}
+-- A copy's next item: where it is found, and what a call on the pair gives of it.
+use Rattle.std.proofs.Common.{◌≡◌, ◌+◌, ◌≤◌, ◌∙◌, ap, arith, Bool, drop, Err, false, get_or, IfSome, length, List, [], ◌∷◌, map, None, Option, option_map, Result, Some, subst, sym, true, Vec, ℕ}
 use Rattle.std.specs.declared.alloc.Global.{Global}
 use Rattle.disk_edge.specs.Disk.{DiskModel}
 use Rattle.disk_pair.specs.Gives.{CopyGives}
@@ -8,15 +8,29 @@ use Rattle.disk_pair.specs.Stands.{StandsFor as StandsOnDisks}
 use Rattle.disk_pair.specs.Term.{AtEachPair, OfEachPair, Paired, disk_a, disk_b}
 use Rattle.disk_pair.specs.declared.fault.PutFault.{PutFault}
 use Rattle.disk_pair.specs.declared.fault.PutFault.TheVariants.{DiskFault}
-use Rattle.store_core.specs.Copied.{FirstFrom}
+use Rattle.store_core.specs.Copied.{FirstFrom, IsFirstFrom, KeepsCopied, KeepsVersion}
+use Rattle.store_core.specs.Stored.{IsServing, StoreTerm as Memory}
 use Rattle.store_machine.specs.History.{rebase}
 use Rattle.store_machine.specs.declared.machine.Copying.{Copying}
+use Rattle.store_machine.specs.declared.machine.History.{History}
 use Rattle.store_machine.specs.declared.machine.State.{State}
 use Rattle.store_machine.specs.declared.machine.Status.{Status}
 use Rattle.store_disk.specs.Items.{left, with_next}
 use Rattle.store_disk.specs.OnDisk.{CopyTerm, Lacks, copy_so_far, lacking, on_pair, whole_copy}
 use Rattle.store_disk.specs.Payloads.{base_payload}
-use Rattle.store_disk.proofs.Items.{commit-written, no-commits, state-written}
+use Rattle.store_disk.proofs.Items.{commit-written, no-commits, none-later, state-written}
+
+-- the copy's version is kept in memory
+pub keeps-version : KeepsCopied → (m : Memory) (s : State) (c : CopyTerm) → IsServing m s → Lacks s.history s.copy c
+    → KeepsVersion s c.version
+keeps-version law m s c serving l =
+    subst (λ (o : Option Copying). IfSome o (λ copy. KeepsVersion s copy.version)) l.is
+    (law s serving.sound serving.serves).1
+
+-- as long as a state is left, one is found
+pub some-found : (h : History) (copy : Option Copying) (c : CopyTerm) → Lacks h copy c → 1 ≤ c.states
+    → IsFirstFrom c.from (rebase h c.version).base None → ⊥
+some-found h copy c l some none = omega (arith, l.states, some, none-later c.from (rebase h c.version).base none)
 
 -- where nothing is called, what is shown now is shown at each moment
 pub still-shown : {D : Type 0} (model : DiskModel D)

@@ -1,10 +1,7 @@
 -- A store that is ready after a step of a copy: what its memory serves.
-use Rattle.std.proofs.Common.{◌≡◌, ◌+◌, ◌*◌, ◌≤◌, ◌∙◌, arith, Err, false, inl, length, None, Option, refl, Some, subst, sym, ℕ}
+use Rattle.std.proofs.Common.{◌≡◌, ◌+◌, ◌*◌, ◌≤◌, ◌∙◌, arith, inl, length, None, Option, refl, Some, subst, sym, ℕ}
 use Rattle.std.specs.FinMap.{entries}
-use Rattle.disk_pair.specs.Gives.{progress_after}
 use Rattle.disk_pair.specs.Term.{Paired, progress_of}
-use Rattle.disk_pair.specs.declared.fault.PutFault.{PutFault}
-use Rattle.disk_pair.specs.declared.fault.PutFault.TheVariants.{DiskFault, NoMemory}
 use Rattle.journal_core.specs.Standing.{Standing}
 use Rattle.journal_core.specs.declared.format.TheConstants.{LONGEST_PAYLOAD}
 use Rattle.journal_core.specs.declared.header.Header.{Header}
@@ -13,7 +10,6 @@ use Rattle.store_machine.specs.History.{head, snapshot}
 use Rattle.store_machine.specs.Laws.{RunsStaySound}
 use Rattle.store_machine.specs.Machine.{Gives}
 use Rattle.store_machine.specs.declared.machine.Event.TheVariants.{Compact}
-use Rattle.store_machine.specs.declared.machine.Faults.{Faults}
 use Rattle.store_machine.specs.declared.machine.Reply.TheVariants as reply
 use Rattle.store_machine.specs.declared.machine.State.{State}
 use Rattle.store_machine.specs.declared.machine.TheConstants.{LAST_IDENTIFIER}
@@ -36,22 +32,6 @@ ready-beside {D} m old new was copy same stands copying h = record {
   copying = copying;
 }
 
--- the counts of faults are free
-counts-free : (m : Memory) (s : State) (f : Faults) → IsServing m s → IsServing m (record s { faults = f })
-counts-free m s f h = record {
-  sound = record {
-    history = h.sound.history;
-    doubt = h.sound.doubt;
-    slots = h.sound.slots;
-    pins = h.sound.pins;
-    bases = record { base = h.sound.bases.base; copy = h.sound.bases.copy; finish = h.sound.bases.finish };
-    kept = h.sound.kept;
-    made = h.sound.made;
-  };
-  serves = h.serves;
-  stands = h.stands;
-}
-
 -- a copy that has an item more
 less-serves : RunsStaySound → (m : Memory) (s : State) → IsServing m s → IsServing m (one_less s)
 less-serves law m s h =
@@ -63,20 +43,6 @@ less-serves law m s h =
       stands = h.stands;
     }
 
--- one that is given up
-dropped-serves : RunsStaySound → (m : Memory) (s : State) → IsServing m s → IsServing m (record s { copy = None })
-dropped-serves law m s h =
-    let u : State = record s { faults = record { a = 0; b = 0 } } in
-    let t : State = record s { copy = None; faults = record { a = 1; b = 0 } } in
-    let gives : Gives u 0 Compact (reply.DiskFault false) t =
-    ((h.serves, (omega arith, omega arith)), (inl (inl (omega arith)), (inl refl, refl))) in
-    counts-free m t s.faults (record {
-      sound = sound-after law u t 0 Compact (reply.DiskFault false) gives
-          (counts-free m s (record { a = 0; b = 0 }) h).sound;
-      serves = h.serves;
-      stands = h.stands;
-    })
-
 pub item-ready : {D : Type 0} → RunsStaySound → (m : Memory) (old new : Paired D) (c next : CopyTerm)
     → new.journal ≡ old.journal
     → ((s : State) → IsServing m s → Lacks s.history s.copy c → Lacks s.history (one_less s).copy next)
@@ -87,24 +53,6 @@ item-ready law m old new c next same lacks follows h =
     let s : State = h.stands.0 in
     ready-beside m old new (Some c) (Some next) same
     (one_less s, less-serves law m s h.stands.1, lacks s h.stands.1 h.stands.2) (follows m.version h.copying) h
-
-pub given-up-ready : {D : Type 0} → RunsStaySound → (m : Memory) (old new : Paired D) (was : Option CopyTerm)
-    → new.journal ≡ old.journal → progress_of new.other ≡ None → IsReady m old was → IsReady m new None
-given-up-ready law m old new was same none h =
-    let s : State = h.stands.0 in
-    ready-beside m old new was None same (record s { copy = None }, dropped-serves law m s h.stands.1, refl) none h
-
-pub same-ready : {D : Type 0} (m : Memory) (old new : Paired D) (was : Option CopyTerm) → new.journal ≡ old.journal
-    → progress_of new.other ≡ progress_of old.other → IsReady m old was → IsReady m new was
-same-ready m old new was same progress h =
-    ready-beside m old new was was same h.stands (subst (Follow m.version was) (sym progress) h.copying) h
-
--- no copy was started
-pub idle-ready : {D : Type 0} (m : Memory) (old new : Paired D) (fault : PutFault) → new.journal ≡ old.journal
-    → progress_of new.other ≡ progress_after (Err fault) None (progress_of new.other) → IsReady m old None
-    → IsReady m new None
-idle-ready m old new (DiskFault doubt) same progress h = ready-beside m old new None None same h.stands progress h
-idle-ready m old new NoMemory same progress h = ready-beside m old new None None same h.stands progress h
 
 pub start-ready : {D : Type 0} → RunsStaySound → (m : Memory) (old new : Paired D) (version left : ℕ) (header : Header)
     → version ≡ m.version
@@ -131,29 +79,6 @@ start-ready law m old new version left header is count few bases same progress h
       subst (λ v. Lacks started.0.history started.0.copy (new_copy v left)) at started.2,
     )
     (subst (Follow m.version (Some (new_copy version left))) (sym progress) copying) h
-
--- the copy is the disk that is read
-pub finish-ready : {D : Type 0} → RunsStaySound → (m : Memory) (old new : Paired D) (c : CopyTerm)
-    → progress_of old.other ≡ Some (record {
-      header = new.journal.header;
-      place = new.journal.place;
-      bases = new.journal.header.base_count;
-    })
-    → progress_of new.other ≡ None → IsReady m old (Some c) → IsReady m new None
-finish-ready law m old new c moved none h =
-    let s : State = h.stands.0 in
-    let f : Follow m.version (Some c) (Some (record {
-      header = new.journal.header;
-      place = new.journal.place;
-      bases = new.journal.header.base_count;
-    })) = subst (Follow m.version (Some c)) moved h.copying in
-    record {
-      stands = (record s { copy = None }, dropped-serves law m s h.stands.1, refl);
-      few = h.few;
-      bases = omega (arith, f.few);
-      place = omega (arith, f.place);
-      copying = none;
-    }
 
 -- how far the copy is, as a call on it asks
 pub followed : {D : Type 0} (m : Memory) (pair : Paired D) (c : CopyTerm) → IsReady m pair (Some c)

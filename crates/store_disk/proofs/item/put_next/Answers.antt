@@ -2,9 +2,8 @@ use Rattle.std.proofs.Common.{◌≤◌, ◌∙◌, arith, Err, Ok, refl}
 use Rattle.disk_pair.specs.Pairs.{MayShow, PairOpensTo}
 use Rattle.store_core.specs.Copied.{state_of}
 use Rattle.store_disk.specs.Copies.{copy_of}
-use Rattle.store_disk.proofs.Followed.{keeps-version, some-found}
 use Rattle.store_disk.proofs.Items.{state-lacks}
-use Rattle.store_disk.proofs.NextItem.{state-given, still-shown}
+use Rattle.store_disk.proofs.NextItem.{keeps-version, some-found, state-given, still-shown}
 use Rattle.store_disk.proofs.item.put_next.Goals as goal
 
 pub unreachable-requires : goal.unreachable-requires
