@@ -1,4 +1,4 @@
-//! What the table reads of an atom, and the electrons that it gives.
+//! What the table reads of an atom.
 ghost use Rattle.std.specs.Prelude.{◌≡◌, ◌≢◌, ◌<◌, ℕ, length, map, slice_get, slice_index_or, All, IfOk, Some, if◌then◌else◌};
 ghost use Rattle.std.specs.List.{zip};
 ghost use Rattle.chem_core.specs.Sketch.{ends_at};
@@ -7,9 +7,8 @@ ghost use Rattle.chem_core.specs.RingFacts.{AreRingBonds};
 ghost use Rattle.aromatic.specs.Electrons.{candidate_row, electrons, element_beyond, is_eligible, row_at, environment_among};
 ghost use Rattle.aromatic.specs.Counts.{AreEnvironments, HasFewBonds, add, without_bonds};
 
-use crate::table::{Row, row_of};
 use bumpalo::Bump;
-use chem_core::{Sketch, SketchAtom, SketchBond, SketchKind};
+use chem_core::{SketchAtom, SketchBond, SketchKind};
 use std::alloc::AllocError;
 
 /// What the table reads of an atom: how it is written, and how many of its bonds are of which kind.
@@ -33,16 +32,6 @@ pub struct Environment {
     pub to_hetero: u16,
 }
 
-/// The electrons that an atom gives to an aromatic ring; none where it is no candidate. Takes no memory.
-pub fn electrons(sketch: &Sketch, bond_in_ring: &[bool], atom: u16) -> Option<u8>
-    requires sound { IsSound sketch.now }
-    requires rings { AreRingBonds (sketch_ends sketch.now) bond_in_ring.now }
-    requires in_range { atom < length sketch.now.atoms }
-    ensures { result ≡ electrons sketch.now bond_in_ring.now atom }
-{
-    row_at(&sketch.atoms, &sketch.bonds, bond_in_ring, atom).map(|row| row.electrons)
-}
-
 /// What the table reads of each atom, by the atom's place, in one pass over the bonds.
 pub fn environments<'a>(
     arena: &'a Bump,
@@ -58,21 +47,6 @@ pub fn environments<'a>(
     let mut environments = without_bonds_each(arena, atoms)?;
     count_bonds(&mut environments, atoms, bonds, bond_in_ring);
     Ok(environments)
-}
-
-// The row of an atom; none where it is no candidate.
-fn row_at(
-    atoms: &[SketchAtom],
-    bonds: &[SketchBond],
-    bond_in_ring: &[bool],
-    atom: u16,
-) -> Option<Row>
-    requires sound { IsSound (record { atoms = atoms.now; bonds = bonds.now }) }
-    requires rings { length bond_in_ring.now ≡ length bonds.now }
-    requires in_range { atom < length atoms.now }
-    ensures { result ≡ row_at (record { atoms = atoms.now; bonds = bonds.now }) bond_in_ring.now atom }
-{
-    environment_of(atoms, bonds, bond_in_ring, atom).row()
 }
 
 // Each atom before any bond is counted.
@@ -122,7 +96,8 @@ fn count_at_ends(
     environments[b].add(bond.kind, ring, atoms[a].number);
 }
 
-fn environment_of(
+/// What the table reads of one atom.
+pub fn environment_of(
     atoms: &[SketchAtom],
     bonds: &[SketchBond],
     bond_in_ring: &[bool],
@@ -167,18 +142,8 @@ fn count_bond(
 }
 
 impl Environment {
-    /// The row that it fits; none where the atom is no candidate.
-    pub fn row(&self) -> Option<Row>
-        ensures { result ≡ candidate_row self.now }
-    {
-        if self.is_eligible() {
-            row_of(self)
-        } else {
-            None
-        }
-    }
-
-    fn is_eligible(&self) -> bool
+    /// Whether it is that of a candidate, whatever its row.
+    pub fn is_eligible(&self) -> bool
         ensures { result ≡ is_eligible self.now }
     {
         (self.neighbours == 2 || self.neighbours == 3) && self.ring_bonds >= 2 && self.higher == 0

@@ -93,10 +93,26 @@ fn aromatic_bonds<'a>(
         scratch: Scratch::new(arena, gives.len())?,
     };
     let mut marks = vec![in arena; false; bonds.len()]?;
-    for place in 0..bonds.len() {
-        mark_through(bonds, gives, place, &mut search, &mut marks)?;
-    }
+    mark_each(bonds, gives, &mut search, &mut marks)?;
     Ok(marks)
+}
+
+// Searches from each bond in turn.
+fn mark_each(
+    bonds: &[SketchBond],
+    gives: &[Option<u8>],
+    search: &mut Search<'_>,
+    marks: &mut [bool],
+) -> Result<(), AllocError>
+    requires net { IsNet (ends_among bonds.now) search.old.possible.items gives.now (links_in search.old.links.items) }
+    requires blank { IsBlank (length gives.now) search.old.scratch }
+    requires marks { AreMarksBelow (ends_among bonds.now) gives.now 0 marks.old }
+    ensures { OnOk result (AreMarksBelow (ends_among bonds.now) gives.now (length bonds.now) marks.new) }
+{
+    for place in 0..bonds.len() {
+        mark_through(bonds, gives, place, search, marks)?;
+    }
+    Ok(())
 }
 
 // Marks the bonds of a Hückel cycle through a bond, if there is one and the bond is not marked yet. If there is none,

@@ -17,6 +17,5 @@ mod links;
 mod perception;
 mod table;
 
-pub use environment::electrons;
-pub use perception::{Arom, AromFault, perceive, perceive_in};
+pub use perception::{Arom, AromFault, electrons, perceive, perceive_in};
 pub use table::one_row;

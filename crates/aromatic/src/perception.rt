@@ -1,15 +1,15 @@
 //! Aromatic atoms and bonds of a sketch, and the valence of each atom.
-ghost use Rattle.std.specs.Prelude.{◌≡◌, ◌≤◌, length, map, slice_index_or, All, IfOk, IfErr, IfSome, IfNone, false};
+ghost use Rattle.std.specs.Prelude.{◌≡◌, ◌<◌, ◌≤◌, length, map, slice_index_or, All, IfOk, IfErr, IfSome, IfNone, false};
 ghost use Rattle.std.specs.List.{enumerate_from};
 ghost use Rattle.chem_core.specs.RingFacts.{AreRingBonds};
 ghost use Rattle.chem_core.specs.Sound.{IsSketchAtom, IsSound, ends_among, sketch_ends};
-ghost use Rattle.aromatic.specs.Electrons.{candidate_row};
+ghost use Rattle.aromatic.specs.Electrons.{candidate_row, electrons, row_at};
 ghost use Rattle.aromatic.specs.Huckel.{IsFaultOf, IsPerceived, adds_by};
 ghost use Rattle.aromatic.specs.Route.{AreRows};
 ghost use Rattle.aromatic.specs.Tallies.{IsFirstToPass, NonePasses, refused_at, refused_by, valence_at, valence_told};
 
 use crate::bond_tallies::{Tally, tallies};
-use crate::environment::{Environment, environments};
+use crate::environment::{Environment, environment_of, environments};
 use crate::huckel::{find_atoms, find_bonds};
 use crate::table::Row;
 use bumpalo::Bump;
@@ -90,6 +90,16 @@ pub fn perceive_in<'a>(
     perceive_lists(arena, &sketch.atoms, &sketch.bonds, bond_in_ring)
 }
 
+/// The electrons that an atom gives to an aromatic ring; none where it is no candidate. Takes no memory.
+pub fn electrons(sketch: &Sketch, bond_in_ring: &[bool], atom: u16) -> Option<u8>
+    requires sound { IsSound sketch.now }
+    requires rings { AreRingBonds (sketch_ends sketch.now) bond_in_ring.now }
+    requires in_range { atom < length sketch.now.atoms }
+    ensures { result ≡ electrons sketch.now bond_in_ring.now atom }
+{
+    row_at(&sketch.atoms, &sketch.bonds, bond_in_ring, atom).map(|row| row.electrons)
+}
+
 fn perceive_lists<'a>(
     arena: &'a Bump,
     atoms: &[SketchAtom],
@@ -116,6 +126,21 @@ fn perceive_lists<'a>(
         bonds: marks,
         valences: values,
     })
+}
+
+// The row of an atom; none where it is no candidate.
+fn row_at(
+    atoms: &[SketchAtom],
+    bonds: &[SketchBond],
+    bond_in_ring: &[bool],
+    atom: u16,
+) -> Option<Row>
+    requires sound { IsSound (record { atoms = atoms.now; bonds = bonds.now }) }
+    requires rings { length bond_in_ring.now ≡ length bonds.now }
+    requires in_range { atom < length atoms.now }
+    ensures { result ≡ row_at (record { atoms = atoms.now; bonds = bonds.now }) bond_in_ring.now atom }
+{
+    environment_of(atoms, bonds, bond_in_ring, atom).row()
 }
 
 // The row of each atom; none where it is no candidate.

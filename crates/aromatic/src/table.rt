@@ -3,7 +3,7 @@ ghost use Rattle.std.specs.Prelude.{◌≡◌, ◌<◌, ℕ, length, pos, slice_
 ghost use Rattle.std.specs.List.{find};
 ghost use Rattle.aromatic.specs.declared.environment.Environment.{Environment};
 ghost use Rattle.aromatic.specs.declared.table.Row.{Row};
-ghost use Rattle.aromatic.specs.Electrons.{by_ring_double, fits, has_connected, has_doubles, has_number, row_of, rows};
+ghost use Rattle.aromatic.specs.Electrons.{by_ring_double, candidate_row, fits, has_connected, has_doubles, has_number, row_of, rows};
 
 use self::{Doubles as D, Family as F};
 use crate::environment::Environment;
@@ -79,8 +79,21 @@ pub fn one_row()
         → i ≡ j }
 {}
 
-/// The row that fits an atom, if one does.
-pub fn row_of(environment: &Environment) -> Option<Row>
+impl Environment {
+    /// The row that it fits; none where the atom is no candidate.
+    pub fn row(&self) -> Option<Row>
+        ensures { result ≡ candidate_row self.now }
+    {
+        if self.is_eligible() {
+            row_of(self)
+        } else {
+            None
+        }
+    }
+}
+
+// The row that fits an atom, if one does.
+fn row_of(environment: &Environment) -> Option<Row>
     ensures { result ≡ row_of environment.now }
 {
     if environment.number == 6

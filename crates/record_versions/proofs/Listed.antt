@@ -6,7 +6,7 @@ use Rattle.std.specs.Map.{lookup, set_value}
 use Rattle.std.specs.Ordering.{match_ordering}
 use Rattle.record_versions.specs.Entries.{entries, entries_in, row_of}
 use Rattle.record_versions.specs.Rows.{Row}
-use Rattle.record_versions.specs.declared.chain.Entry.{Entry}
+use Rattle.record_versions.specs.declared.entries.Entry.{Entry}
 
 none-some : {X : Type 0} {x : X} → None ≡ Some x → ⊥
 none-some e = cc

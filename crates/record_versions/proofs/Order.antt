@@ -6,7 +6,7 @@ use Rattle.std.proofs.lemmas.List.Sorted.{IsPartitionedBy-leb}
 use Rattle.std.specs.List.{AllPairs, AllWithin, remove}
 use Rattle.std.specs.List.Sorted.{IsNonDecreasingBy, IsPartitionedBy}
 use Rattle.record_versions.specs.Entries.{IsBetween, IsLatest, IsLeastUnread, IsRead, IsReadBefore, is_other}
-use Rattle.record_versions.specs.declared.chain.Entry.{Entry}
+use Rattle.record_versions.specs.declared.entries.Entry.{Entry}
 
 module _ {V : Type 0} where
   -- each version is below all later ones

@@ -14,7 +14,7 @@ use Rattle.std.specs.declared.ops.Bound.TheVariants.{Included, Unbounded}
 use Rattle.record_versions.specs.Entries.{IsDead, IsLeastDead, IsLeastId, IsLeastUnread, IsRead, IsUpTo, chain_of, entries_in, row_of}
 use Rattle.record_versions.specs.Rows.{Row}
 use Rattle.record_versions.specs.Ahead.{Rise}
-use Rattle.record_versions.specs.declared.chain.Entry.{Entry}
+use Rattle.record_versions.specs.declared.entries.Entry.{Entry}
 
 pub same-at : (a b : ℕ) → is_at (nat_cmp a) b ≡ true → a ≡ b
 same-at a b t = grind (arith, nat_tests)

@@ -5,7 +5,7 @@ use Rattle.std.specs.Map.{lookup}
 use Rattle.std.specs.Option.{IfSome, IsSomeAnd}
 use Rattle.std.specs.Ordering.{nat_cmp}
 use Rattle.record_versions.specs.Rows.{Row}
-use Rattle.record_versions.specs.declared.chain.Entry.{Entry}
+use Rattle.record_versions.specs.declared.entries.Entry.{Entry}
 
 -- one place is not after the other, by identifier and then by version
 abbrev pub IsUpTo : ℕ × ℕ → ℕ × ℕ → Type 0

@@ -1,6 +1,6 @@
 -- What contracts see of the entries of one identifier.
 use Rattle.std.specs.Prelude.{List, ℕ}
-use Rattle.record_versions.specs.declared.chain.Entry.{Entry}
+use Rattle.record_versions.specs.declared.entries.Entry.{Entry}
 
 -- the entries, oldest first, and for how many there is memory
 pub record Row (V : Type 0) : Type 0 where

@@ -1,19 +1,12 @@
 //! The entries of one identifier, oldest first.
 ghost use Rattle.std.specs.Prelude.{◌≡◌, ◌≢◌, ◌+◌, ◌++◌, ◌<◌, ◌≤◌, [], ◌∷◌, All, Contains, MatchOption, None, OnOk, Some, filter, length, option_copied, slice_index_or, ℕ};
 ghost use Rattle.std.specs.List.{AllPairs, AllWithin};
-ghost use Rattle.record_versions.specs.declared.chain.Entry.{Entry};
+ghost use Rattle.record_versions.specs.declared.entries.Entry.{Entry};
 ghost use Rattle.record_versions.specs.Entries.{IsLatest, IsLeastUnread, IsReadBefore, is_other};
 
-use crate::entries::Entries;
+use crate::entries::{Entries, Entry};
 use std::alloc::{AllocError, Global};
 use std::marker::Model;
-
-/// A value with the version that made it.
-#[derive(Drop)]
-pub struct Entry<V> {
-    pub version: u32,
-    pub value: V,
-}
 
 /// Contracts see the entries, and for how many there is room.
 #[derive(Drop)]

@@ -3,11 +3,17 @@
 ghost use Rattle.std.specs.Prelude.{◌≡◌, ◌+◌, ◌++◌, ◌<◌, ◌≤◌, ◌↔◌, [], ◌∷◌, IfSome, IsSome, IfNone, OnOk, OnSome, length, slice_index_or};
 ghost use Rattle.std.specs.List.{AllPairs, AllWithin, remove};
 
-use crate::chain::Entry;
 use std::alloc::{AllocError, Global};
 use std::collections::VecDeque;
 use std::marker::Model;
 use std::ops::Index;
+
+/// A value with the version that made it.
+#[derive(Drop)]
+pub struct Entry<V> {
+    pub version: u32,
+    pub value: V,
+}
 
 /// Contracts see the entries, and for how many there is room.
 #[derive(Drop)]

@@ -163,10 +163,12 @@ impl Block {
         ensures { IsNext want.now (rank from.0 from.1) self.now result }
     {
         let is_any = Print::empty().holds(want);
-        if !is_any && !self.union.holds(want) {
+        let start = self.count_near(from, *hint);
+        // The union is asked once, where a search enters the block.
+        if start == 0 && !is_any && !self.union.holds(want) {
             return None;
         }
-        for place in self.count_near(from, *hint)..self.entries.len() {
+        for place in start..self.entries.len() {
             let entry = &self.entries[place];
             if is_any || entry.print.holds(want) {
                 *hint = place + 1;

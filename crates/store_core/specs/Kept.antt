@@ -6,7 +6,7 @@ use Rattle.std.specs.Borrow.{Bor}
 use Rattle.chem_core.specs.Bits.{HasBit}
 use Rattle.record_versions.specs.Entries.{IsReserved, chain_of, entries}
 use Rattle.record_versions.specs.Rows.{Row}
-use Rattle.record_versions.specs.declared.chain.Entry.{Entry as Versioned}
+use Rattle.record_versions.specs.declared.entries.Entry.{Entry as Versioned}
 use Rattle.screen_index.specs.Pairs.{put_in}
 use Rattle.screen_index.specs.declared.entry.Screened.{Screened}
 use Rattle.store_machine.specs.declared.machine.Entry.{Entry}

@@ -3,7 +3,7 @@ use Rattle.std.proofs.lemmas.List.{get_or_read}
 use Rattle.std.proofs.lemmas.List.Quantifiers.{all_pairs_remove}
 use Rattle.record_versions.specs.Entries.{is_other}
 use Rattle.record_versions.specs.Rows.{Row}
-use Rattle.record_versions.specs.declared.chain.Entry.{Entry}
+use Rattle.record_versions.specs.declared.entries.Entry.{Entry}
 use Rattle.record_versions.proofs.Order.{Ascends, absent, kept-whole, one-removed, removed-there}
 use Rattle.record_versions.proofs.chain.Chain.take.Goals as goal
 

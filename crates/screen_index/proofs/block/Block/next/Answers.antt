@@ -13,7 +13,7 @@ returns-then-is_any c =
     let x = c.index-entry.result.now in
     let less : place < length now = omega (arith, c.self.inside.entries.ok.0, ap (λ l. length l) c.self.view_is) in
     let is : x ≡ get_or now place x = c.index-entry.ensures ∙ ap (λ l. get_or l place x) c.self.view_is in
-    let late : r ≤ rank_of (get_or now place x) = c.count_near-place.ensures.behind place x (omega arith) less in
+    let late : r ≤ rank_of (get_or now place x) = c.count_near-start.ensures.behind place x (omega arith) less in
     let holds : Holds x.print want = elim c.then-is_any.branch [
       | then-is_any-via-then-is_any w ↦
           λ bit has. absurd (c.empty.ensures.none bit (c.holds-is_any.ensures.value.0 w.if-is_any.true bit has))
