@@ -33,9 +33,6 @@ impl Known {
     pub fn plain(&self) -> Option<(u8, u8)>
         ensures { result ≡ label_of plain self.now }
     {
-        match self.number {
-            Some(number) => Some((number, 2)),
-            None => None,
-        }
+        Some((self.number?, 2))
     }
 }

@@ -230,10 +230,8 @@ fn mark_two(
 fn twins_by(twins: Option<Twins>, step: Step) -> Option<Twins>
     ensures { IfSome result (λ t. (twins ≡ Some t) × (t.step ≡ step)) }
 {
-    match twins {
-        Some(pair) => if pair.step == step { Some(pair) } else { None },
-        None => None,
-    }
+    let pair = twins?;
+    if pair.step == step { Some(pair) } else { None }
 }
 
 // The same where the step is that of the twins: only what goes on from the atom to the first twin can be new.
