@@ -2,9 +2,8 @@
 ghost use Rattle.std.specs.Prelude.{◌≡◌, ◌≢◌, ◌<◌, ℕ, length, map, slice_get, slice_index_or, All, IfOk, Some, if◌then◌else◌};
 ghost use Rattle.std.specs.List.{zip};
 ghost use Rattle.chem_core.specs.Sketch.{ends_at};
-ghost use Rattle.chem_core.specs.Sound.{IsSound, sketch_ends};
-ghost use Rattle.chem_core.specs.RingFacts.{AreRingBonds};
-ghost use Rattle.aromatic.specs.Electrons.{candidate_row, electrons, element_beyond, is_eligible, row_at, environment_among};
+ghost use Rattle.chem_core.specs.Sound.{IsSound};
+ghost use Rattle.aromatic.specs.Electrons.{element_beyond, is_eligible, environment_among};
 ghost use Rattle.aromatic.specs.Counts.{AreEnvironments, HasFewBonds, add, without_bonds};
 
 use bumpalo::Bump;

@@ -1,9 +1,9 @@
 -- The pins of the cursors of all sessions.
-use Rattle.std.proofs.Common.{◌≡◌, ◌⊎◌, ◌++◌, ◌∙◌, ap, append_assoc, inl, inr, List, [], ◌∷◌, map, refl, subst, sym, ℕ}
+use Rattle.std.proofs.Common.{◌≡◌, ◌⊎◌, ◌++◌, ◌∙◌, ap, append_assoc, inl, inr, List, [], ◌∷◌, refl, subst, sym, ℕ}
 use Rattle.session_run.specs.Cursors.{Cursor}
 use Rattle.session_run.specs.Pins.{AreHeld, HasSlot, SameOthers}
 use Rattle.session_run.specs.Responds.{KeepsPins}
-use Rattle.session_run.specs.Watching.{Standing, nothing_kept}
+use Rattle.session_run.specs.Watching.{Standing}
 use Rattle.session_run.proofs.Held.{slot-left, slot-right}
 use Rattle.drill_run.specs.Dialogue.{AllKept}
 use Rattle.drill_run.specs.Turns.{all_of}
@@ -67,10 +67,6 @@ pub all-append : (xs ys : AllKept) → all_of (xs ++ ys) ≡ all_of xs ++ all_of
 all-append [] ys = refl
 all-append (x ∷ xs) ys =
     ap (λ (l : List Cursor). x.cursors ++ l) (all-append xs ys) ∙ sym (append_assoc x.cursors (all_of xs) (all_of ys))
-
-pub all-none : {X : Type 0} (xs : List X) → all_of (map (λ _. nothing_kept) xs) ≡ []
-all-none [] = refl
-all-none (x ∷ xs) = all-none xs
 
 -- the pins of one session, among those of all
 pub session-held : (a : ℕ → ℕ → Type 0) (before after : AllKept) (k : Standing)

@@ -1,14 +1,12 @@
 -- A change that is committed in memory or refused, by the states for which the store stands.
-use Rattle.std.proofs.Common.{◌≡◌, ◌≤◌, ◌∙◌, ap, arith, Err, false, IfErr, inl, IsErrAnd, length-append, [], ◌∷◌, None, Ok, Option, option_map, refl, Result, subst, sym, true, ℕ}
-use Rattle.std.proofs.lemmas.Bool.{true≢false}
+use Rattle.std.proofs.Common.{◌≡◌, ◌≤◌, ◌∙◌, ap, arith, Err, IfErr, inl, IsErrAnd, length-append, [], ◌∷◌, None, Ok, Option, option_map, refl, Result, subst, sym, true, ℕ}
 use Rattle.store_machine.specs.History.{id_of}
 use Rattle.store_machine.specs.Laws.{KeptIsRead, StatesStay}
 use Rattle.store_machine.specs.Machine.{MayAdd, committed, one_more}
 use Rattle.store_machine.specs.declared.machine.Event.TheVariants as event
-use Rattle.store_machine.specs.declared.machine.Reply.{Reply}
 use Rattle.store_machine.specs.declared.machine.Reply.TheVariants as reply
 use Rattle.store_machine.specs.declared.machine.State.{State}
-use Rattle.store_core.specs.Calls.{Calls, WornAs, is_worn_out}
+use Rattle.store_core.specs.Calls.{Calls}
 use Rattle.record_versions.specs.Entries.{IsLatest, chain_of}
 use Rattle.store_core.specs.Kept.{Kept, status_of}
 use Rattle.store_core.specs.Prepared.{IsWhy}
@@ -105,23 +103,3 @@ committed-row store new s c h may stands =
       generation = h.generation;
       stands = stands;
     })
-
--- a store in memory is never worn
-pub not-worn : {X : Type 0} (f : CommitFault) (r : Result X CommitFault) → IsErrAnd r (λ e. e ≡ f)
-    → is_worn_out {X = X} (Err f) ≡ false → is_worn_out r ≡ false
-not-worn f (Ok x) is not = refl
-not-worn {X} f (Err e) is not = ap (λ (g : CommitFault). is_worn_out {X = X} (Err g)) is ∙ not
-
-pub refused-not-worn : {X : Type 0} (f : CommitFault) (refusal : Option Reply) (r : Result X CommitFault)
-    → IsErrAnd r (λ e. e ≡ f) → IsRefusal f refusal → is_worn_out r ≡ false
-refused-not-worn fault.Known refusal r is h = not-worn fault.Known r is refl
-refused-not-worn fault.Absent refusal r is h = not-worn fault.Absent r is refl
-refused-not-worn fault.Withdrawn refusal r is h = not-worn fault.Withdrawn r is refl
-refused-not-worn fault.Full refusal r is h = absurd h
-refused-not-worn (fault.DiskFault doubt) refusal r is h = absurd h
-refused-not-worn fault.Worn refusal r is h = absurd h
-refused-not-worn fault.NoMemory refusal r is h = absurd h
-
-pub worn-result : {X : Type 0} (f : CommitFault) (r : Result X CommitFault) → IsErrAnd r (λ e. e ≡ f)
-    → is_worn_out {X = X} (Err f) ≡ false → WornAs ⊥ ⊥ (is_worn_out r)
-worn-result f r is not = ((λ never. absurd never), (λ worn. true≢false (sym worn ∙ not-worn f r is not)))
