@@ -33,8 +33,8 @@ pub returns-in_err-number-in-len1-up : goal.returns-in_err-number-in-len1-up
 returns-in_err-number-in-len1-up c =
     let bytes = c.args.bytes.now in
     rw c.from_residual-in_err-number-in-len1-up.ensures (mass_refused bytes (take (length bytes - 1) (drop 1 bytes))
-    (get_or bytes 0 0) (front_is bytes (get_or bytes 0 0) c.in-len1-up.len_at_least refl) (c.is_digit.ensures.0 c.if-is_digit.true)
-    c.in_err-number-in-len1-up.ensures)
+    (get_or bytes 0 0) (front_is bytes (get_or bytes 0 0) c.in-len1-up.len_at_least refl)
+    (c.is_digit.ensures.0 c.if-is_digit.true) c.in_err-number-in-len1-up.ensures)
 
 pub returns-in-43 : goal.returns-in-43
 returns-in-43 c =
