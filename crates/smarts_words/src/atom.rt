@@ -38,10 +38,7 @@ fn bare_at(bytes: &[u8]) -> Option<(AtomWord, &[u8])>
     match bytes {
         [b'C', b'l', rest @ ..] => Some((symbol(17, false), rest)),
         [b'B', b'r', rest @ ..] => Some((symbol(35, false), rest)),
-        [first, rest @ ..] => match bare_word(*first) {
-            Some(word) => Some((word, rest)),
-            None => None,
-        },
+        [first, rest @ ..] => Some((bare_word(*first)?, rest)),
         [] => None,
     }
 }
@@ -65,10 +62,7 @@ fn organic_word(byte: u8) -> Option<AtomWord>
 {
     match organic_number(byte) {
         Some(number) => Some(symbol(number, false)),
-        None => match lower_letter_number(byte) {
-            Some(number) => Some(symbol(number, true)),
-            None => None,
-        },
+        None => Some(symbol(lower_letter_number(byte)?, true)),
     }
 }
 

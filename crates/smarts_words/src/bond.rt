@@ -58,10 +58,7 @@ fn word_at(bytes: &[u8]) -> Option<(BondWord, &[u8])>
     match bytes {
         [b'/', b'?', rest @ ..] => Some((BondWord::Up, rest)),
         [b'\\', b'?', rest @ ..] => Some((BondWord::Down, rest)),
-        [first, rest @ ..] => match word_of(*first) {
-            Some(word) => Some((word, rest)),
-            None => None,
-        },
+        [first, rest @ ..] => Some((word_of(*first)?, rest)),
         [] => None,
     }
 }

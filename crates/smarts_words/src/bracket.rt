@@ -70,19 +70,13 @@ fn some_operand(postfix: &mut Postfix<AtomWord>, word: Option<AtomWord>) -> Resu
 fn mass_word(mass: Option<u16>) -> Option<AtomWord>
     ensures { result ≡ option_map (λ n. words.Mass n) mass }
 {
-    match mass {
-        Some(mass) => Some(AtomWord::Mass(mass)),
-        None => None,
-    }
+    Some(AtomWord::Mass(mass?))
 }
 
 fn charge_word(charge: Option<i16>) -> Option<AtomWord>
     ensures { result ≡ option_map (λ n. words.Charge n) charge }
 {
-    match charge {
-        Some(charge) => Some(AtomWord::Charge(charge)),
-        None => None,
-    }
+    Some(AtomWord::Charge(charge?))
 }
 
 // The hydrogen atom that the bracket is as a whole, and the bytes after it.
@@ -92,17 +86,12 @@ fn hydro_at(bytes: &[u8]) -> Option<(Hydro, &[u8])>
     ensures only { (h : bracket.Hydro) (k : Option (List ℕ)) (rest : List ℕ) → IsHydro h → IsClass k
         → bytes.now ≡ hydro_text h ++ (end_text k ++ rest) → IsSomeAnd result (λ r. r.1.now ≡ rest) }
 {
-    let Some((mass, rest)) = number_at(bytes) else {
-        return None;
-    };
+    let (mass, rest) = number_at(bytes)?;
     let [b'H', rest @ ..] = rest else {
         return None;
     };
     let (charge, rest) = some_charge_at(rest);
-    match after_end(rest) {
-        Some(rest) => Some((Hydro { mass, charge }, rest)),
-        None => None,
-    }
+    Some((Hydro { mass, charge }, after_end(rest)?))
 }
 
 // The charge that the bytes begin with, if they begin with one, and the bytes after it.

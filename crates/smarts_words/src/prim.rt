@@ -26,14 +26,14 @@ pub fn prim_at(bytes: &[u8]) -> Option<(Found, &[u8])>
     ensures shorter { IfSome result (λ r. length r.1.now < length bytes.now) }
 {
     match bytes {
-        [b'$', b'(', rest @ ..] => match part_at(rest) {
-            Some((part, rest)) => Some((recursive(part), rest)),
-            None => None,
-        },
-        _ => match word_at(bytes) {
-            Some((word, rest)) => Some((plain(word), rest)),
-            None => None,
-        },
+        [b'$', b'(', rest @ ..] => {
+            let (part, rest) = part_at(rest)?;
+            Some((recursive(part), rest))
+        }
+        _ => {
+            let (word, rest) = word_at(bytes)?;
+            Some((plain(word), rest))
+        }
     }
 }
 
@@ -61,16 +61,16 @@ fn word_at(bytes: &[u8]) -> Option<(AtomWord, &[u8])>
 {
     match bytes {
         [b'@', rest @ ..] => Some((AtomWord::Stereo, after_stereo(rest))),
-        [b'#', rest @ ..] => match written_at(rest) {
-            Some((number, rest)) => Some((AtomWord::Number(number), rest)),
-            None => None,
-        },
+        [b'#', rest @ ..] => {
+            let (number, rest) = written_at(rest)?;
+            Some((AtomWord::Number(number), rest))
+        }
         [b'+', ..] => signs_at(bytes),
         [b'-', ..] => signs_at(bytes),
-        [first, ..] if is_digit(*first) => match written_at(bytes) {
-            Some((number, rest)) => Some((AtomWord::Mass(number), rest)),
-            None => None,
-        },
+        [first, ..] if is_digit(*first) => {
+            let (number, rest) = written_at(bytes)?;
+            Some((AtomWord::Mass(number), rest))
+        }
         _ => letters_at(bytes),
     }
 }
@@ -80,10 +80,8 @@ fn signs_at(bytes: &[u8]) -> Option<(AtomWord, &[u8])>
     ensures { Takes signs_text AreSigns FollowsSigns (λ s. words.Charge (charge_of s)) bytes.now
         (option_map (λ r. (r.0, r.1.now)) result) }
 {
-    match charge_at(bytes) {
-        Some((charge, rest)) => Some((AtomWord::Charge(charge), rest)),
-        None => None,
-    }
+    let (charge, rest) = charge_at(bytes)?;
+    Some((AtomWord::Charge(charge), rest))
 }
 
 // The primitive that the bytes begin with, where a letter or `*` is first.
@@ -99,10 +97,7 @@ fn letters_at(bytes: &[u8]) -> Option<(AtomWord, &[u8])>
     };
     match letter_of(*first) {
         Some(letter) => count_at(letter, rest),
-        None => match one_letter(*first) {
-            Some(word) => Some((word, rest)),
-            None => None,
-        },
+        None => Some((one_letter(*first)?, rest)),
     }
 }
 
@@ -110,10 +105,8 @@ fn letters_at(bytes: &[u8]) -> Option<(AtomWord, &[u8])>
 fn count_at(letter: Letter, bytes: &[u8]) -> Option<(AtomWord, &[u8])>
     ensures { IsCountAt letter bytes.now (option_map (λ r. (r.0, r.1.now)) result) }
 {
-    match number_at(bytes) {
-        Some((number, rest)) => Some((AtomWord::Count { letter, number }, rest)),
-        None => None,
-    }
+    let (number, rest) = number_at(bytes)?;
+    Some((AtomWord::Count { letter, number }, rest))
 }
 
 // The bytes up to the `)` that closes what is open before them, and the bytes after it.

@@ -19,10 +19,7 @@ pub fn two_letters_at(bytes: &[u8]) -> Option<(AtomWord, &[u8])>
     let [first, second, rest @ ..] = bytes else {
         return None;
     };
-    match pair_word(*first, *second) {
-        Some(word) => Some((word, rest)),
-        None => None,
-    }
+    Some((pair_word(*first, *second)?, rest))
 }
 
 /// The primitive of one byte that is a symbol, `*`, `a` or `A`. `H` is no symbol there.
@@ -69,10 +66,7 @@ fn pair_word(first: u8, second: u8) -> Option<AtomWord>
     match (first, second) {
         (b's', b'e') => Some(symbol(34, true)),
         (b'a', b's') => Some(symbol(33, true)),
-        _ => match pair_element(first, second) {
-            Some(number) => Some(symbol(number, false)),
-            None => None,
-        },
+        _ => Some(symbol(pair_element(first, second)?, false)),
     }
 }
 
@@ -94,9 +88,6 @@ fn letter_symbol(byte: u8) -> Option<AtomWord>
 {
     match lower_letter_number(byte) {
         Some(number) => Some(symbol(number, true)),
-        None => match number_of(&[byte]) {
-            Some(number) => Some(symbol(number, false)),
-            None => None,
-        },
+        None => Some(symbol(number_of(&[byte])?, false)),
     }
 }

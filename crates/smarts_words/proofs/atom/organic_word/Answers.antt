@@ -15,14 +15,14 @@ returns-in-Some c =
           ap single (c.symbol.ensures ∙ ap (λ n. words.Symbol n false) f.2);
     }
 
-pub returns-in-Some-lower_letter_number : goal.returns-in-Some-lower_letter_number
-returns-in-Some-lower_letter_number c =
-    let f = c.in-Some-lower_letter_number.ensures in
+pub returns-in_ok-lower_letter_number-in-None : goal.returns-in_ok-lower_letter_number-in-None
+returns-in_ok-lower_letter_number-in-None c =
+    let f = c.in_ok-lower_letter_number-in-None.ensures in
     record {
       atom = lower f.0;
       is = f.1;
       bare = tt;
       spelled = f.2;
       value =
-          ap single (c.symbol-in-Some-lower_letter_number.ensures ∙ ap (λ n. words.Symbol n true) f.3);
+          ap single (c.symbol-in-None.ensures ∙ ap (λ n. words.Symbol n true) f.3);
     }

@@ -24,16 +24,16 @@ returns-in-Some-letter_of c =
     count_taken bytes r c.in-Some-letter_of.letter _ (front ∙ ap (λ v. v ∷ r) e) c.in_default.ensures.none
     c.count_at.ensures
 
-pub returns-in-Some-one_letter : goal.returns-in-Some-one_letter
-returns-in-Some-one_letter c =
+pub returns-in_ok-one_letter-in-None : goal.returns-in_ok-one_letter-in-None
+returns-in_ok-one_letter-in-None c =
     let bytes = c.args.bytes.now in
     let front = front_is bytes (get_or bytes 0 0) c.in-len1-up.len_at_least refl in
-    single_taken bytes _ (get_or bytes 0 0) c.in-Some-one_letter.word front c.in_default.ensures.none c.in-None.ensures
-    c.in-Some-one_letter.ensures
+    single_taken bytes _ (get_or bytes 0 0) c.in_ok-one_letter-in-None.field-0 front c.in_default.ensures.none
+    c.in-None.ensures c.in_ok-one_letter-in-None.ensures
 
-pub returns-in-None-one_letter : goal.returns-in-None-one_letter
-returns-in-None-one_letter c =
+pub returns-in_err-one_letter-in-None : goal.returns-in_err-one_letter-in-None
+returns-in_err-one_letter-in-None c =
     let bytes = c.args.bytes.now in
     let front = front_is bytes (get_or bytes 0 0) c.in-len1-up.len_at_least refl in
-    single_refused bytes _ (get_or bytes 0 0) front c.in_default.ensures.none c.in-None.ensures
-    c.in-None-one_letter.ensures
+    rw c.from_residual.ensures (single_refused bytes _ (get_or bytes 0 0) front c.in_default.ensures.none
+    c.in-None.ensures c.in_err-one_letter-in-None.ensures)

@@ -10,31 +10,31 @@ returns-in-64 c =
     stereo_taken bytes (take (length bytes - 1) (drop 1 bytes)) c.after_stereo.result.now f.0
     (front_is bytes 64 c.in-64.len_at_least (omega arith)) f.1 f.2 f.3
 
-pub returns-in-Some : goal.returns-in-Some
-returns-in-Some c =
+pub returns-in_ok-number-in-35 : goal.returns-in_ok-number-in-35
+returns-in_ok-number-in-35 c =
     let bytes = c.args.bytes.now in
-    atomic_taken bytes (take (length bytes - 1) (drop 1 bytes)) c.in-Some.rest.now c.in-Some.number
-    (front_is bytes 35 c.in-35.len_at_least (omega arith)) c.in-Some.ensures
+    atomic_taken bytes (take (length bytes - 1) (drop 1 bytes)) c.in_ok-number-in-35.rest.now
+    c.in_ok-number-in-35.number (front_is bytes 35 c.in-35.len_at_least (omega arith)) c.in_ok-number-in-35.ensures
 
-pub returns-in-None : goal.returns-in-None
-returns-in-None c =
+pub returns-in_err-number-in-35 : goal.returns-in_err-number-in-35
+returns-in_err-number-in-35 c =
     let bytes = c.args.bytes.now in
-    atomic_refused bytes (take (length bytes - 1) (drop 1 bytes)) (front_is bytes 35 c.in-35.len_at_least (omega arith))
-    c.in-None.ensures
+    rw c.from_residual.ensures (atomic_refused bytes (take (length bytes - 1) (drop 1 bytes)) (front_is bytes 35
+    c.in-35.len_at_least (omega arith)) c.in_err-number-in-35.ensures)
 
-pub returns-in-Some-written_at : goal.returns-in-Some-written_at
-returns-in-Some-written_at c =
+pub returns-in_ok-number-in-len1-up : goal.returns-in_ok-number-in-len1-up
+returns-in_ok-number-in-len1-up c =
     let bytes = c.args.bytes.now in
-    mass_taken bytes (take (length bytes - 1) (drop 1 bytes)) c.in-Some-written_at.rest.now (get_or bytes 0 0)
-    c.in-Some-written_at.number (front_is bytes (get_or bytes 0 0) c.in-len1-up.len_at_least refl)
-    (c.is_digit.ensures.0 c.if-is_digit.true) c.in-Some-written_at.ensures
+    mass_taken bytes (take (length bytes - 1) (drop 1 bytes)) c.in_ok-number-in-len1-up.rest.now (get_or bytes 0 0)
+    c.in_ok-number-in-len1-up.number (front_is bytes (get_or bytes 0 0) c.in-len1-up.len_at_least refl)
+    (c.is_digit.ensures.0 c.if-is_digit.true) c.in_ok-number-in-len1-up.ensures
 
-pub returns-in-None-written_at : goal.returns-in-None-written_at
-returns-in-None-written_at c =
+pub returns-in_err-number-in-len1-up : goal.returns-in_err-number-in-len1-up
+returns-in_err-number-in-len1-up c =
     let bytes = c.args.bytes.now in
-    mass_refused bytes (take (length bytes - 1) (drop 1 bytes)) (get_or bytes 0 0)
-    (front_is bytes (get_or bytes 0 0) c.in-len1-up.len_at_least refl) (c.is_digit.ensures.0 c.if-is_digit.true)
-    c.in-None-written_at.ensures
+    rw c.from_residual-in_err-number-in-len1-up.ensures (mass_refused bytes (take (length bytes - 1) (drop 1 bytes))
+    (get_or bytes 0 0) (front_is bytes (get_or bytes 0 0) c.in-len1-up.len_at_least refl)
+    (c.is_digit.ensures.0 c.if-is_digit.true) c.in_err-number-in-len1-up.ensures)
 
 pub returns-in-43 : goal.returns-in-43
 returns-in-43 c =

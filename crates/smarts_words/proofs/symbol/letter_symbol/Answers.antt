@@ -19,19 +19,20 @@ returns-in-Some c =
           ∙ ap (λ n. words.Symbol n true) f.3;
     }
 
-pub returns-in-Some-number_of : goal.returns-in-Some-number_of
-returns-in-Some-number_of c =
-    let n = c.in-Some-number_of.number in
-    let e = c.in-Some-number_of.ensures.some in
+pub returns-in_ok-number_of-in-None : goal.returns-in_ok-number_of-in-None
+returns-in_ok-number_of-in-None c =
+    let n = c.in_ok-number_of-in-None.field-0 in
+    let e = c.in_ok-number_of-in-None.ensures.some in
     record {
       prim = element n;
-      is = (one_from n c.args.byte e c.requires.other.0 c.requires.other.1, c.in-Some-number_of.ensures.range);
+      is = (one_from n c.args.byte e c.requires.other.0 c.requires.other.1, c.in_ok-number_of-in-None.ensures.range);
       bare = tt;
       spelled = get_or_from_slice_get symbols n (c.args.byte ∷ []) [] e;
-      value = c.symbol-in-Some-number_of.ensures;
+      value = c.symbol-in-None.ensures;
     }
 
-pub returns-in-None-number_of : goal.returns-in-None-number_of
-returns-in-None-number_of c =
+pub returns-in_err-number_of-in-None : goal.returns-in_err-number_of-in-None
+returns-in_err-number_of-in-None c =
     let o = c.requires.other in
-    none_single c.args.byte o.0 o.2 o.3 c.in-None.ensures c.in-None-number_of.ensures.none
+    rw c.from_residual.ensures (none_single c.args.byte o.0 o.2 o.3 c.in-None.ensures
+    c.in_err-number_of-in-None.ensures.none)

@@ -34,15 +34,15 @@ returns-in-97-eq115 c =
           c.symbol-in-97-eq115.ensures;
     }
 
-pub returns-in-Some : goal.returns-in-Some
-returns-in-Some c =
-    let f = c.in-Some.ensures in
-    let n = c.in-Some.number in
+pub returns-in_ok-pair_element-in_default : goal.returns-in_ok-pair_element-in_default
+returns-in_ok-pair_element-in_default c =
+    let f = c.in_ok-pair_element-in_default.ensures in
+    let n = c.in_ok-pair_element-in_default.field-0 in
     record {
       prim = element n;
       is = (two_from n c.args.first c.args.second f.1, f.0);
       bare = tt;
       spelled = get_or_from_slice_get symbols n (c.args.first ∷ c.args.second ∷ []) [] f.1;
       symbol = inl (n, f.1);
-      value = c.symbol-in-Some.ensures;
+      value = c.symbol-in_default.ensures;
     }
