@@ -10,7 +10,7 @@ use Rattle.chem_core.specs.Component.{IsComponent, Reaches}
 use Rattle.chem_core.specs.Molecule.{ends_of}
 use Rattle.chem_core.proofs.Components.{component_same}
 use Rattle.smarts_parse.specs.Pattern.{graph_of, term_of}
-use Rattle.matcher.specs.declared.fit.Task.{Task}
+use Rattle.matcher.specs.declared.task.Task.{Task}
 use Rattle.matcher.specs.Candidates.{AreCandidates, IsCandidate}
 use Rattle.matcher.specs.Group.{group_at, KeepsGroups, BeginsGroup, IsNowhere, HasFew, is_of_group, IsInMarked}
 use Rattle.matcher.specs.Hunt.{Continues}

@@ -12,7 +12,7 @@ use Rattle.smarts_parse.specs.Embedding.{BondEmbeds}
 use Rattle.smarts_parse.specs.Pattern.{BondTerm, Prim, bond_of, graph_of, term_of}
 use Rattle.smarts_parse.specs.Truth.{BondTrue}
 use Rattle.matcher.specs.Candidates.{AreCandidates, IsCandidate}
-use Rattle.matcher.specs.declared.fit.Task.{Task}
+use Rattle.matcher.specs.declared.task.Task.{Task}
 use Rattle.matcher.specs.Hunt.{AreTaken, Asks, Continues}
 use Rattle.matcher.specs.Task.{Embeds, IsReadyTask}
 use Rattle.matcher.proofs.Joins.{among_neighbours, joined_back, neighbour_joined, one_bond}

@@ -10,7 +10,7 @@ use Rattle.smarts_mean.specs.Table.{HoldsIn}
 use Rattle.smarts_parse.specs.Embedding.{BondEmbeds}
 use Rattle.smarts_parse.specs.Pattern.{graph_of, term_of}
 use Rattle.matcher.specs.Candidates.{AreCandidates, IsCandidate, IsTrueAt}
-use Rattle.matcher.specs.declared.fit.Task.{Task}
+use Rattle.matcher.specs.declared.task.Task.{Task}
 use Rattle.matcher.specs.Group.{group_at}
 use Rattle.matcher.specs.Lean.{HasJust}
 use Rattle.matcher.specs.Task.{Completes, IsPlaced, IsReadyTask}

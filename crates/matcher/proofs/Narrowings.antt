@@ -16,7 +16,7 @@ use Rattle.smarts_parse.specs.declared.pattern.PatBond.{PatBond}
 use Rattle.smarts_parse.specs.Embedding.{BondEmbeds}
 use Rattle.smarts_parse.specs.Pattern.{BondTerm, GraphTerm, Prim, bond_of, graph_of, term_of}
 use Rattle.smarts_parse.specs.Sound.{pattern_ends}
-use Rattle.matcher.specs.declared.fit.Task.{Task}
+use Rattle.matcher.specs.declared.task.Task.{Task}
 use Rattle.matcher.specs.Candidates.{AreCandidates, IsCandidate}
 use Rattle.matcher.specs.declared.narrow.Around.{Around}
 use Rattle.matcher.specs.Narrow.{AreAround, AreNear, AreRingNear, HasAround, IsReach, around_at, more_around}

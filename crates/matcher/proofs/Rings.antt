@@ -10,7 +10,7 @@ use Rattle.smarts_parse.specs.declared.pattern.PatBond.{PatBond}
 use Rattle.smarts_parse.specs.Embedding.{BondEmbeds}
 use Rattle.smarts_parse.specs.Pattern.{bond_of, graph_of, term_of}
 use Rattle.smarts_parse.specs.Sound.{pattern_ends}
-use Rattle.matcher.specs.declared.fit.Task.{Task}
+use Rattle.matcher.specs.declared.task.Task.{Task}
 use Rattle.matcher.specs.Ring.{AreBound, AreOnRings, IsMarked, IsMarkedWay, IsOnRing, IsWay}
 use Rattle.matcher.specs.Task.{Completes, Embeds, IsReadyTask}
 use Rattle.matcher.proofs.Joins.{joined_back}

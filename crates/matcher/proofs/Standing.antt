@@ -8,7 +8,7 @@ use Rattle.smarts_parse.specs.Pattern.{GraphTerm}
 use Rattle.smarts_parse.specs.Truth.{AtomTrue}
 use Rattle.matcher.specs.Partial.{CanComplete, Parts}
 use Rattle.matcher.specs.Candidates.{AreCandidates, AreTruths, AreTruthsIn, IsCandidate}
-use Rattle.matcher.specs.declared.fit.Task.{Task}
+use Rattle.matcher.specs.declared.task.Task.{Task}
 use Rattle.matcher.specs.Task.{Completes, Embeds}
 use Rattle.matcher.proofs.Partials.{index_front}
 

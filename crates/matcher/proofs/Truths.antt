@@ -18,7 +18,7 @@ use Rattle.smarts_parse.specs.Pattern.{And, GraphTerm, Not, Or, Prim, Term, grap
 use Rattle.smarts_parse.specs.Sound.{NamesBelow}
 use Rattle.smarts_parse.specs.Truth.{AtomPrimTrue, AtomTrue}
 use Rattle.matcher.specs.Candidates.{AreTruths, AreTruthsIn, IsTruth, IsTruthAt}
-use Rattle.matcher.specs.declared.fit.Task.{Task}
+use Rattle.matcher.specs.declared.task.Task.{Task}
 use Rattle.matcher.specs.Partial.{Parts}
 use Rattle.matcher.proofs.Asked.{names_below}
 use Rattle.matcher.proofs.Classes.{no_element}

@@ -6,7 +6,7 @@ use Rattle.smarts_mean.specs.Table.{HoldsIn}
 use Rattle.smarts_parse.specs.declared.pattern.AtomPrim.{AtomPrim}
 use Rattle.smarts_parse.specs.Pattern.{GraphTerm, Term, graph_of}
 use Rattle.smarts_parse.specs.Truth.{AtomTrue}
-use Rattle.matcher.specs.declared.fit.Task.{Task}
+use Rattle.matcher.specs.declared.task.Task.{Task}
 use Rattle.matcher.specs.Partial.{Parts}
 use Rattle.matcher.specs.Task.{Embeds}
 

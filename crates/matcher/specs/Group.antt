@@ -2,7 +2,7 @@
 use Rattle.std.specs.Prelude.{◌≡◌, ◌≢◌, ◌↔◌, ℕ, ◌<◌, ◌==◌, Bool, true, false, List, count_by, length, slice_index, slice_index_or}
 use Rattle.chem_core.specs.Component.{IsComponent, Reaches}
 use Rattle.chem_core.specs.Molecule.{Molecule, ends_of}
-use Rattle.matcher.specs.declared.fit.Task.{Task}
+use Rattle.matcher.specs.declared.task.Task.{Task}
 use Rattle.matcher.specs.Task.{Embeds}
 
 -- the group of a place, 0 for none

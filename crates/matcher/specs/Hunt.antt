@@ -5,7 +5,7 @@ use Rattle.chem_core.specs.Graph.{JoinsAt}
 use Rattle.chem_core.specs.Molecule.{ends_of}
 use Rattle.smarts_parse.specs.Pattern.{BondTerm, graph_of}
 use Rattle.smarts_parse.specs.Truth.{BondTrue}
-use Rattle.matcher.specs.declared.fit.Task.{Task}
+use Rattle.matcher.specs.declared.task.Task.{Task}
 use Rattle.matcher.specs.declared.lay.Placement.{Placement}
 use Rattle.matcher.specs.Task.{Embeds}
 

@@ -5,7 +5,7 @@ use Rattle.chem_core.specs.Graph.{IsRingBond, JoinsAt}
 use Rattle.chem_core.specs.Molecule.{Molecule, ends_of}
 use Rattle.smarts_parse.specs.Pattern.{GraphTerm, graph_of}
 use Rattle.smarts_parse.specs.Sound.{pattern_ends}
-use Rattle.matcher.specs.declared.fit.Task.{Task}
+use Rattle.matcher.specs.declared.task.Task.{Task}
 use Rattle.matcher.specs.declared.narrow.Around.{Around}
 use Rattle.matcher.specs.Ring.{AreOnRings, IsMarked}
 use Rattle.matcher.specs.Task.{Embeds}

@@ -4,7 +4,7 @@ use Rattle.chem_core.specs.Graph.{IsRingBond, Joined, JoinsAt}
 use Rattle.chem_core.specs.Molecule.{ends_of}
 use Rattle.smarts_parse.specs.Pattern.{graph_of}
 use Rattle.smarts_parse.specs.Sound.{pattern_ends}
-use Rattle.matcher.specs.declared.fit.Task.{Task}
+use Rattle.matcher.specs.declared.task.Task.{Task}
 use Rattle.matcher.specs.Task.{Embeds}
 
 -- the bond at place j is marked

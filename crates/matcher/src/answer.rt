@@ -13,18 +13,18 @@ ghost use Rattle.matcher.specs.Task.{Completes, IsReadyTask};
 
 use crate::candidates::Candidates;
 use crate::choices::Choices;
-use crate::fit::Task;
 use crate::grouping::Grouping;
 use crate::hunt::{is_whole, may_continue};
 use crate::lay::{NO_BOND, Order, Placement, is_rare};
 use crate::lean::place_least;
-use crate::narrow::Narrowing;
+use crate::narrow::{Narrowing, may_narrow};
 use crate::parts::note_parts;
 use crate::plan::{EarlierBonds, is_loose};
 use crate::prepare::{Prepared, only_part};
 use crate::refusal::{has_bond, is_crowded, lacks_atom};
 use crate::ring::lacks_ring;
 use crate::scratch::{Memory, Scratch};
+use crate::task::Task;
 use chem_core::Mol;
 use smarts_parse::{Expr, Graph, Pattern};
 
@@ -270,7 +270,7 @@ fn is_refused(
     ensures refused { IsTrue result → ¬ Completes task.now [] }
     ensures candidates { result ≡ false → AreCandidates task.now candidates.new.words.items }
 {
-    if lacks_ring(task, closing) {
+    if !may_narrow(task) && lacks_ring(task, closing) {
         return true;
     }
     if task.graph.atoms.len() > FEW_PLACES && is_crowded(task) {

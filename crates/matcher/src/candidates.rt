@@ -10,8 +10,8 @@ ghost use Rattle.matcher.specs.Candidates.{AreTruths, IsCandidate, IsTruth, IsTr
 ghost use Rattle.matcher.specs.Task.{IsReadyTask};
 ghost use Rattle.matcher.specs.declared.candidates.TheConstants.{MOST_WORDS};
 
-use crate::fit::Task;
 use crate::planned::MOST_PLACES;
+use crate::task::Task;
 use chem_core::{Atom, MOST_ATOMS, Mol};
 use smarts_mean::{MOST_PARTS, RecTable, prim_true};
 use smarts_parse::{AtomPrim, Expr};

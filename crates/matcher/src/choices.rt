@@ -8,11 +8,11 @@ ghost use Rattle.matcher.specs.Candidates.{AreCandidates};
 ghost use Rattle.matcher.specs.Task.{Completes, IsReadyTask};
 
 use crate::candidates::Candidates;
-use crate::fit::Task;
 use crate::group::begins_group;
 use crate::grouping::has_groups;
 use crate::planned::MOST_PLACES;
 use crate::refusal::{excludes, excludes_groups, may_stand};
+use crate::task::Task;
 use chem_core::MOST_ATOMS;
 use smarts_parse::Pattern;
 use std::alloc::{AllocError, Global};

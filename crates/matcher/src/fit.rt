@@ -9,19 +9,10 @@ ghost use Rattle.matcher.specs.Candidates.{IsTrueAt};
 ghost use Rattle.matcher.specs.Task.{FirstEmbeds, IsPlaced, IsReadyTask};
 
 use crate::group::keeps_groups;
-use crate::plan::EarlierBonds;
+use crate::task::Task;
 use chem_core::Mol;
-use smarts_mean::{RecTable, bond_true};
-use smarts_parse::{BondPrim, Expr, Graph, PatBond};
-
-/// A graph to be placed in a molecule, where recursive parts hold as the table says.
-#[derive(Clone, Copy)]
-pub struct Task<'a> {
-    pub graph: &'a Graph,
-    pub mol: &'a Mol,
-    pub table: &'a RecTable,
-    pub steps: &'a [EarlierBonds],
-}
+use smarts_mean::bond_true;
+use smarts_parse::{BondPrim, Expr, PatBond};
 
 /// Whether the next atom may stand at that one after the atoms in front. Its expression is known to be true there and
 /// its first bond to an earlier atom to embed, and neither is looked at again.

@@ -4,7 +4,7 @@ ghost use Rattle.std.specs.Prelude.{◌≡◌, ◌<◌, ◌≤◌, ◌↔◌, �
 ghost use Rattle.matcher.specs.Group.{BeginsGroup, HasFew, IsNowhere, KeepsGroup, KeepsGroups, is_of_group};
 ghost use Rattle.matcher.specs.Task.{IsReadyTask};
 
-use crate::fit::Task;
+use crate::task::Task;
 use chem_core::Mol;
 
 /// Whether a place keeps to groups at an atom, where the places that are taken stand in the image.

@@ -6,12 +6,12 @@ ghost use Rattle.matcher.specs.Group.{IsNowhere};
 ghost use Rattle.matcher.specs.Task.{Completes, IsReadyTask};
 
 use crate::candidates::Candidates;
-use crate::fit::Task;
 use crate::group::{begins_group, lacks_room};
 use crate::hunt::{may_continue, with_taken};
 use crate::lay::{EVERY_BOND, NO_BOND, NO_PLACEMENT, Placement, start_at};
 use crate::plan::EarlierBonds;
 use crate::planned::MOST_PLACES;
+use crate::task::Task;
 use smarts_parse::Pattern;
 use std::alloc::{AllocError, Global};
 

@@ -10,10 +10,11 @@ ghost use Rattle.matcher.specs.Candidates.{AreCandidates, IsCandidate};
 ghost use Rattle.matcher.specs.Task.{Completes, IsPlaced, IsReadyTask};
 
 use crate::candidates::{Candidates, MOST_BITS, all_in, has};
-use crate::fit::{Task, are_joined_by, first_embeds, fits, is_new};
+use crate::fit::{are_joined_by, first_embeds, fits, is_new};
 use crate::group::keeps_groups;
 use crate::lay::{EVERY_BOND, NO_BOND, Placement};
 use crate::planned::MOST_PLACES;
+use crate::task::Task;
 use smarts_mean::bond_true;
 use smarts_parse::PatBond;
 

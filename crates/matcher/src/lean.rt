@@ -10,8 +10,9 @@ ghost use Rattle.matcher.specs.Task.{Completes, FirstEmbeds, IsBonded, IsLeastPl
 
 use crate::candidates::{Candidates, MOST_BITS, all_in, has};
 use crate::choices::Choices;
-use crate::fit::{Task, closes};
+use crate::fit::closes;
 use crate::search::{extend, extend_at};
+use crate::task::Task;
 use smarts_mean::bond_true;
 
 /// Places the graph's atoms, if they can be, as the least embedding.
@@ -183,8 +184,8 @@ fn place_near(
     false
 }
 
-// The same with the next atom, which is of no group, at that one, which is not taken. Its first bond to an earlier atom,
-// if it has one, is known to embed.
+// The same with the next atom, which is of no group, at that one, which is not taken. Its first bond to an earlier
+// atom, if it has one, is known to embed.
 #[cycle(lean)]
 #[inline(always)]
 fn place_at(

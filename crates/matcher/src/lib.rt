@@ -31,6 +31,7 @@ mod ring;
 mod scratch;
 mod search;
 mod second;
+mod task;
 mod wanted;
 
 pub use answer::{Embedding, first, has};

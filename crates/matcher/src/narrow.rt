@@ -10,9 +10,9 @@ ghost use Rattle.matcher.specs.Ring.{AreOnRings, IsMarked};
 ghost use Rattle.matcher.specs.Task.{Completes, IsReadyTask};
 
 use crate::candidates::{Candidates, MOST_BITS, MOST_WORDS};
-use crate::fit::Task;
 use crate::planned::MOST_PLACES;
 use crate::ring::mark_rings;
+use crate::task::Task;
 use chem_core::Mol;
 use std::alloc::{AllocError, Global};
 
@@ -118,7 +118,7 @@ impl Narrowing {
 }
 
 /// Whether candidates are narrowed, if that pays for the pattern: those of many places, in a molecule of at most 64
-/// atoms.
+/// atoms. Where they are, rings need not be asked for by lengths and classes: narrowing shows more.
 pub fn may_narrow(task: &Task) -> bool {
     task.graph.atoms.len() >= MANY_PLACES && task.mol.atoms().len() <= MOST_BITS
 }
@@ -277,6 +277,22 @@ fn narrow_all(
         return false;
     }
     gather(task, marks, near, words, around);
+    narrow_words(task, near, around, words)
+}
+
+// Takes away candidates of each place by what is around it. Whether one has none left.
+fn narrow_words(task: &Task, near: &[u64], around: &[Around], words: &mut [u64]) -> bool
+    requires ready { IsReadyTask task.now }
+    requires room { length words.old ≡ MOST_WORDS }
+    requires around_room { length around.now ≡ 256 }
+    requires atoms { length near.now ≡ 64 }
+    requires few { length task.now.mol.now.atoms ≤ 64 }
+    requires around { (p : ℕ) → p < length task.now.graph.now.atoms.items
+        → HasAround task.now near.now p (around_at around.now p) }
+    requires candidates { AreCandidates task.now words.old }
+    ensures candidates { AreCandidates task.now words.new }
+    ensures refused { IsTrue result → ¬ Completes task.now [] }
+{
     let mut last = NONE_NARROWED;
     for place in 0..task.graph.atoms.len() {
         last = narrow_word(near, words[place], around[place], last);

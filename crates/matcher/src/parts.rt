@@ -12,12 +12,12 @@ ghost use Rattle.matcher.specs.Plan.{IsReady};
 ghost use Rattle.matcher.specs.Prepared.{IsPrepared};
 
 use crate::class::may_be;
-use crate::fit::Task;
 use crate::lean::place_from;
 use crate::plan::EarlierBonds;
 use crate::prepare::Prepared;
 use crate::scratch::Memory;
 use crate::second::{with_pair, with_second};
+use crate::task::Task;
 use chem_core::Mol;
 use smarts_parse::{Graph, Pattern};
 

@@ -13,9 +13,10 @@ ghost use Rattle.matcher.specs.Task.{Completes, Embeds, IsReadyTask};
 
 use crate::candidates::Candidates;
 use crate::class::{classes_in, may_be};
-use crate::fit::{Task, is_new};
+use crate::fit::is_new;
 use crate::group::{begins_group, keeps_groups};
 use crate::plan::EarlierBonds;
+use crate::task::Task;
 use chem_core::{Atom, Mol};
 use smarts_mean::bond_true;
 use smarts_parse::{Expr, Graph, PatBond, Pattern};

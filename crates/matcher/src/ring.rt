@@ -10,10 +10,9 @@ ghost use Rattle.matcher.specs.Ring.{AreBound, AreOnRings, IsMarked, IsMarkedWay
 ghost use Rattle.matcher.specs.Task.{Completes, Embeds, IsReadyTask};
 
 use crate::class::may_be;
-use crate::fit::Task;
-use crate::narrow::may_narrow;
 use crate::plan::EarlierBonds;
 use crate::planned::MOST_PLACES;
+use crate::task::Task;
 use smarts_parse::{Graph, PatBond};
 use std::alloc::{AllocError, Global};
 
@@ -81,14 +80,11 @@ fn put(found: &mut [u16], count: usize, bond: usize) -> usize
 }
 
 /// Whether a ring of the graph that one of these bonds closes can lie at no ring of the molecule, as far as lengths and
-/// classes show. It is not asked where candidates may be narrowed: that shows more.
+/// classes show.
 pub fn lacks_ring(task: &Task, closing: &[u16]) -> bool
     requires { IsReadyTask task.now }
     ensures { IsTrue result → ¬ Completes task.now [] }
 {
-    if closing.is_empty() || may_narrow(task) {
-        return false;
-    }
     for bond in closing {
         let place = usize::from(*bond);
         if place < task.graph.bonds.len() && lacks_closed(task, place) {

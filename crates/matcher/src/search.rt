@@ -5,7 +5,8 @@ ghost use Rattle.matcher.specs.Task.{Completes, FirstEmbeds, IsBonded, IsLeastPl
 
 use crate::candidates::Candidates;
 use crate::choices::Choices;
-use crate::fit::{Task, fits};
+use crate::fit::fits;
+use crate::task::Task;
 use smarts_mean::bond_true;
 
 /// Places the graph's other atoms after those that are placed, if they can be, as the least embedding that begins so.

@@ -10,7 +10,7 @@ ghost use Rattle.matcher.specs.Candidates.{AreTruths, IsCandidate};
 ghost use Rattle.matcher.specs.Task.{Completes, IsReadyTask};
 
 use crate::candidates::{Candidates, MOST_BITS, has};
-use crate::fit::Task;
+use crate::task::Task;
 use chem_core::Mol;
 use smarts_mean::bond_true;
 use smarts_parse::{Graph, PatBond};

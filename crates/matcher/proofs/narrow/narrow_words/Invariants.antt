@@ -1,6 +1,6 @@
 use Rattle.matcher.specs.Candidates.{AreCandidates}
 use Rattle.matcher.specs.Narrow.{IsNarrowed}
-use Rattle.matcher.proofs.narrow.narrow_all.Given as goal
+use Rattle.matcher.proofs.narrow.narrow_words.Given as goal
 
 -- no candidate is lost, and the last word is narrowed
 abbrev pub invariant-loop-place : goal.invariant-loop-place

@@ -2,7 +2,7 @@ use Rattle.std.proofs.Common.{arith}
 use Rattle.std.proofs.lemmas.List.{length-map}
 use Rattle.smarts_parse.specs.Pattern.{term_of}
 use Rattle.matcher.proofs.Narrowings.{narrowed, none_left}
-use Rattle.matcher.proofs.narrow.narrow_all.Goals as goal
+use Rattle.matcher.proofs.narrow.narrow_words.Goals as goal
 
 pub bounds-words-place : goal.bounds-words-place
 bounds-words-place c =
@@ -22,8 +22,9 @@ loop-place-preserved c =
       candidates = narrowed c.args.task.now c.args.near.now c.loop-place.words c.loop-place.place
           c.narrow_word-last.result.kept _ c.requires.few
           (omega (arith, few, c.requires.room, length-map c.args.task.now.graph.now.atoms.items term_of))
-          (c.gather.ensures c.loop-place.place (omega (arith, c.loop-place-test.true)))
-          c.loop-place.invariant.candidates c.narrow_word-last.ensures.kept.enough c.narrow_word-last.ensures.kept.within;
+          (c.requires.around c.loop-place.place (omega (arith, c.loop-place-test.true)))
+          c.loop-place.invariant.candidates c.narrow_word-last.ensures.kept.enough
+          c.narrow_word-last.ensures.kept.within;
       last = c.narrow_word-last.ensures.last;
     }
 
@@ -33,7 +34,7 @@ returns-then-words-place-eq0-clause-refused c = λ _.
     none_left c.args.task.now _ c.loop-place.place
     (narrowed c.args.task.now c.args.near.now c.loop-place.words c.loop-place.place c.narrow_word-last.result.kept _
     c.requires.few (omega (arith, few, c.requires.room, length-map c.args.task.now.graph.now.atoms.items term_of))
-    (c.gather.ensures c.loop-place.place (omega (arith, c.loop-place-test.true))) c.loop-place.invariant.candidates
+    (c.requires.around c.loop-place.place (omega (arith, c.loop-place-test.true))) c.loop-place.invariant.candidates
     c.narrow_word-last.ensures.kept.enough c.narrow_word-last.ensures.kept.within)
     c.requires.few (omega (arith, length-map c.args.task.now.graph.now.atoms.items term_of))
     c.if-words-place-eq0.true
@@ -43,5 +44,5 @@ returns-then-words-place-eq0-clause-candidates c =
     let few = c.requires.ready.searchable.few in
     narrowed c.args.task.now c.args.near.now c.loop-place.words c.loop-place.place c.narrow_word-last.result.kept _
     c.requires.few (omega (arith, few, c.requires.room, length-map c.args.task.now.graph.now.atoms.items term_of))
-    (c.gather.ensures c.loop-place.place (omega (arith, c.loop-place-test.true))) c.loop-place.invariant.candidates
+    (c.requires.around c.loop-place.place (omega (arith, c.loop-place-test.true))) c.loop-place.invariant.candidates
     c.narrow_word-last.ensures.kept.enough c.narrow_word-last.ensures.kept.within
