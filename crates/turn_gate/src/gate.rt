@@ -4,17 +4,15 @@ ghost use Rattle.turn_gate.specs.Numbers.{own};
 ghost use Rattle.turn_gate.specs.Steps.{giving, given_to};
 
 use crate::known::Known;
-use crate::rule::{About, Add, Cut, Glue, Learn, Look, Pick, Release, Rule};
+use crate::rule::{About, Cut, Glue, Learn, Pick, Rule};
 use crate::stands::Stands;
-use crate::turn::Worn;
 use atomic_table::{Refused, Seat, Table};
 use std::alloc::{AllocError, Global};
 use std::snapshot::Snapshot;
-use std::sync::Wait;
-use std::sync::atomic::{AtomicU64, Ordering};
+use std::sync::atomic::AtomicU64;
 
 // The words of the table: how many events the history has, and whether a turn is on.
-const COUNT: usize = 0;
+pub(crate) const COUNT: usize = 0;
 
 pub(crate) const HOLDER: usize = 1;
 
@@ -51,14 +49,8 @@ pub struct Gate<V: Stands> {
     ghost limits: { (1 ≤ turns) × (turns ≤ 2 ^ 63) },
 }
 
-/// The value and the count, while the value is out of the slot.
-pub(crate) struct Taken<V> {
-    pub(crate) value: V,
-    pub(crate) count: u64,
-}
-
 impl<V: Stands> Gate<V> {
-    ghost use Rattle.turn_gate.specs.Passes.{IsOf, InTurn, Begins, Ends, Sees, AllTaken, Names, Added, Merged, IsRoot, IsWhole, known, turns_of};
+    ghost use Rattle.turn_gate.specs.Passes.{IsOf, Begins, Ends, Merged, IsRoot, IsWhole, known, turns_of};
 
     /// Returns a gate with a number of turns, 1 to 2^63, and its root pass, which is whole.
     /// Its history begins at one origin where the value stands for no event. An error gives the value back.
@@ -158,50 +150,5 @@ impl<V: Stands> Gate<V> {
         ensures fresh { own V.number ((known pass.old).given ∷ []) (known pass.old).seen ≡ [] }
     {
         self.table.shared.load::<Learn<V>>(&mut pass.seat, COUNT);
-    }
-
-    // Takes the holder word, sees the whole history and takes the value.
-    // Where all turns were taken it releases the word instead.
-    pub(crate) fn begin<R: Wait>(&self, rt: &R, pass: &mut Pass<V>) -> Result<Taken<V>, Worn>
-        requires of { IsOf self.now pass.old }
-        ensures in_turn { IfOk result (λ taken. InTurn self.now pass.new taken.count) }
-        ensures sees { IfOk result (λ taken. Sees V.stands V.number pass.old taken.value pass.new) }
-        ensures of { IfErr result (λ _. IsOf self.now pass.new) }
-        ensures worn { IfErr result
-            (λ _. AllTaken V.stands V.number (turns_of self.now) pass.old pass.new) }
-    {
-        self.take(rt, pass);
-        let shared = &self.table.shared;
-        let count = shared.load::<Look<V>>(&mut pass.seat, COUNT);
-        if count >= self.turns {
-            shared.store::<Release>(&mut pass.seat, HOLDER, 0);
-            self.wake();
-            return Err(Worn);
-        }
-        let value = shared.exchange(&mut pass.seat, 0, None).unwrap();
-        Ok(Taken { value, count })
-    }
-
-    // Puts the value into the slot again, adds the event and releases the holder word.
-    pub(crate) fn finish(&self, pass: &mut Pass<V>, taken: Taken<V>)
-        requires turn { InTurn self.now pass.old taken.count }
-        requires names { Names V.stands V.tells V.number pass.old taken.value }
-        ensures of { IsOf self.now pass.new }
-        ensures added { Added V.stands V.tells V.number pass.old taken.value pass.new }
-    {
-        let shared = &self.table.shared;
-        let Taken { value, count } = taken;
-        let left = shared.exchange(&mut pass.seat, 0, Some(value));
-        let None = left else { unreachable!() };
-        shared.store::<Add<V>>(&mut pass.seat, COUNT, count + 1);
-        shared.store::<Release>(&mut pass.seat, HOLDER, 0);
-        self.wake();
-    }
-
-    // Ends the sleep of one caller, if one sleeps.
-    fn wake(&self) {
-        if self.asleep.load(Ordering::SeqCst) > 0 {
-            self.table.shared.wake_one(HOLDER);
-        }
     }
 }

@@ -1,7 +1,8 @@
 //! A turn: one pass has the value of its gate, and ends the turn with one event.
-ghost use Rattle.std.specs.Prelude.{◌≡◌, [], IfOk};
+ghost use Rattle.std.specs.Prelude.{◌≡◌, [], IfOk, IfErr};
 
-use crate::gate::{Gate, Pass, Taken};
+use crate::gate::{COUNT, Gate, HOLDER, Pass};
+use crate::rule::{Add, Look, Release};
 use crate::stands::Stands;
 use std::sync::Wait;
 
@@ -16,6 +17,12 @@ pub struct Turn<'g, V: Stands> {
 /// All turns of the gate were taken.
 #[derive(Clone, Copy, Debug, PartialEq, Eq)]
 pub struct Worn;
+
+// The value and the count, while the value is out of the slot.
+struct Taken<V> {
+    value: V,
+    count: u64,
+}
 
 impl<V: Stands> Pass<V> {
     ghost use Rattle.std.specs.Borrow.{sem, RestsIfErr};
@@ -81,5 +88,47 @@ impl<'g, V: Stands> Turn<'g, V> {
             count,
         } = self;
         gate.finish(pass, Taken { value, count });
+    }
+}
+
+impl<V: Stands> Gate<V> {
+    ghost use Rattle.turn_gate.specs.Passes.{IsOf, InTurn, Sees, AllTaken, Names, Added, turns_of};
+
+    // Takes the holder word, sees the whole history and takes the value.
+    // Where all turns were taken it releases the word instead.
+    fn begin<R: Wait>(&self, rt: &R, pass: &mut Pass<V>) -> Result<Taken<V>, Worn>
+        requires of { IsOf self.now pass.old }
+        ensures in_turn { IfOk result (λ taken. InTurn self.now pass.new taken.count) }
+        ensures sees { IfOk result (λ taken. Sees V.stands V.number pass.old taken.value pass.new) }
+        ensures of { IfErr result (λ _. IsOf self.now pass.new) }
+        ensures worn { IfErr result
+            (λ _. AllTaken V.stands V.number (turns_of self.now) pass.old pass.new) }
+    {
+        self.take(rt, pass);
+        let shared = &self.table.shared;
+        let count = shared.load::<Look<V>>(&mut pass.seat, COUNT);
+        if count >= self.turns {
+            shared.store::<Release>(&mut pass.seat, HOLDER, 0);
+            self.wake();
+            return Err(Worn);
+        }
+        let value = shared.exchange(&mut pass.seat, 0, None).unwrap();
+        Ok(Taken { value, count })
+    }
+
+    // Puts the value into the slot again, adds the event and releases the holder word.
+    fn finish(&self, pass: &mut Pass<V>, taken: Taken<V>)
+        requires turn { InTurn self.now pass.old taken.count }
+        requires names { Names V.stands V.tells V.number pass.old taken.value }
+        ensures of { IsOf self.now pass.new }
+        ensures added { Added V.stands V.tells V.number pass.old taken.value pass.new }
+    {
+        let shared = &self.table.shared;
+        let Taken { value, count } = taken;
+        let left = shared.exchange(&mut pass.seat, 0, Some(value));
+        let None = left else { unreachable!() };
+        shared.store::<Add<V>>(&mut pass.seat, COUNT, count + 1);
+        shared.store::<Release>(&mut pass.seat, HOLDER, 0);
+        self.wake();
     }
 }

@@ -74,6 +74,13 @@ impl<V: Stands> Gate<V> {
         self.table.shared.park_timeout(rt, HOLDER, 1, time);
         self.asleep.fetch_sub(1, Ordering::SeqCst);
     }
+
+    // Ends the sleep of one caller, if one sleeps.
+    pub(crate) fn wake(&self) {
+        if self.asleep.load(Ordering::SeqCst) > 0 {
+            self.table.shared.wake_one(HOLDER);
+        }
+    }
 }
 
 // How long a sleep may be after so many: 32 microseconds longer each time, up to about a millisecond.
