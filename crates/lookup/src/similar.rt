@@ -14,8 +14,8 @@ use similar_find::{Best, most_alike, score};
 use std::alloc::{AllocError, Global};
 use store_core::{Record, Service};
 
-/// Which similar structures are asked for: at most `k`, 1 to 256, that have at least `p / q` of the bits in common, `q` 1
-/// to 1000 and `p` at most `q`.
+/// Which similar structures are asked for: at most `k`, 1 to 256, that have at least `p / q` of the bits in common, `q`
+/// 1 to 1000 and `p` at most `q`.
 #[derive(Clone, Copy, Debug, PartialEq, Eq)]
 pub struct Similarity {
     pub p: u32,

@@ -293,8 +293,8 @@ hit_lines version hits rebuilt = map line.Hit hits ++ line.EndWatched version (l
 abbrev pub watch_lines : Watched → Lines
 watch_lines w = hit_lines w.version w.hits w.rebuilt
 
--- What an act does with these watches: its calls, its lines, and the watches then. A pattern is watched from its hits at
--- the version that was pinned on; its hits are listed where they are of the version that was pinned, else they are
+-- What an act does with these watches: its calls, its lines, and the watches then. A pattern is watched from its hits
+-- at the version that was pinned on; its hits are listed where they are of the version that was pinned, else they are
 -- searched anew; or memory ran out, in a search that came so far, or for the lines
 pub data DoesWatch (size : ℕ) (watches : List Watched) : Act → Calls → Lines → List Watched → Type 0 where
   WatchedAll : (name : List ℕ) (pattern : PatternTerm) (calls : Calls) (version : ℕ) (hits : List ℕ)

@@ -44,8 +44,10 @@ change_by verbs.Revise id format text = changes.Revise id format text
 
 -- the change to the text of a molfile
 abbrev pub IsTextChange : MolfileChange → TextChange → Type 0
-IsTextChange (molfile.Register id) change = (change.verb ≡ verbs.Register) × (change.id ≡ id) × (change.format ≡ Molfile)
-IsTextChange (molfile.Revise id) change = (change.verb ≡ verbs.Revise) × (change.id ≡ id) × (change.format ≡ Molfile)
+IsTextChange (molfile.Register id) change =
+    (change.verb ≡ verbs.Register) × (change.id ≡ id) × (change.format ≡ Molfile)
+IsTextChange (molfile.Revise id) change =
+    (change.verb ≡ verbs.Revise) × (change.id ≡ id) × (change.format ≡ Molfile)
 
 -- the line of a request whose molfile is lost
 abbrev pub IsLostLine : Result MolfileChange LineRefusal → line.Reply → Type 0

@@ -19,8 +19,10 @@ AnswersTaken size calls standing got text = (exchanges : List Exchange)
 abbrev pub Ends : EndStatus → ℕ → List TextLine → Calls → Standing → List ℕ → Type 0
 Ends Done size lines calls standing text = IsDialogue size lines [] calls text standing
 Ends Worn size lines calls standing text = WornAt size lines calls text
-Ends SourceFault size lines calls standing text = (left : List TextLine) × IsDialogue size lines left calls text standing
-Ends InputTooLong size lines calls standing text = (left : List TextLine) × IsDialogue size lines left calls text standing
+Ends SourceFault size lines calls standing text =
+    (left : List TextLine) × IsDialogue size lines left calls text standing
+Ends InputTooLong size lines calls standing text =
+    (left : List TextLine) × IsDialogue size lines left calls text standing
 Ends _ size lines calls standing text = Stops size lines calls text standing
 
 -- what was written of a script, where the source and the sink tell

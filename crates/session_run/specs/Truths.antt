@@ -204,7 +204,7 @@ WatchesAreTrue h exchanges =
     → IsTrueWatch h text version count (hits_in y.lines)
     × ((v : ℕ) → IsShown (before ++ x ∷ between) v → v ≤ version)
 
--- every search, every cursor, every lookup and every watch of the dialogue, by pages of a size, told what the history has
+-- every search, cursor, lookup and watch of the dialogue, by pages of a size, told what the history has
 pub record AreTrue (h : History) (size : ℕ) (exchanges : List Exchange) : Type 0 where
   pub searches : SearchesAreTrue h exchanges
   pub cursors : CursorsAreTrue h exchanges

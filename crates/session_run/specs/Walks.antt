@@ -175,11 +175,11 @@ pub record Listing (Made : Calls → Type 0) (begun now : SearchTerm) (tried cou
   pub answered : whole ≡ true → ArePages pages
 
 -- a search was listed to its end, or was cut short, or the service was worn
-pub data Listed (Made : Calls → Type 0) (IsWorn : Type 0) (old new : Walk) (out out' : List ℕ) : Result Bool Stop → Type 0
-  where
-    Whole : (all : Listing Made old.search new.search new.tried new.hits out true out') (ended : new.search.place ≡ End)
-        → Listed Made IsWorn old new out out' (Ok true)
-    Part : (tried count : ℕ) (some : Listing Made old.search new.search tried count out false out')
-        → Listed Made IsWorn old new out out' (Ok false)
-    Broke : (tried count : ℕ) (whole : Bool) (some : Listing Made old.search new.search tried count out whole out')
-        (worn : IsWorn) → Listed Made IsWorn old new out out' (Err stops.Worn)
+pub data Listed (Made : Calls → Type 0) (IsWorn : Type 0) (old new : Walk) (out out' : List ℕ)
+    : Result Bool Stop → Type 0 where
+  Whole : (all : Listing Made old.search new.search new.tried new.hits out true out') (ended : new.search.place ≡ End)
+      → Listed Made IsWorn old new out out' (Ok true)
+  Part : (tried count : ℕ) (some : Listing Made old.search new.search tried count out false out')
+      → Listed Made IsWorn old new out out' (Ok false)
+  Broke : (tried count : ℕ) (whole : Bool) (some : Listing Made old.search new.search tried count out whole out')
+      (worn : IsWorn) → Listed Made IsWorn old new out out' (Err stops.Worn)
