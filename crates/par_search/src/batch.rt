@@ -1,14 +1,18 @@
 //! Pages that are fetched one behind the other, to be searched together.
-ghost use Rattle.std.specs.Prelude.{◌<◌, ◌+◌, ◌^◌, ◌↔◌, IsTrue};
+ghost use Rattle.std.specs.Prelude.{◌≡◌, ◌≤◌, ◌<◌, ◌+◌, ◌^◌, ◌↔◌, All, IfSome, IsTrue};
+ghost use Rattle.std.specs.Arc.{arc_value};
+ghost use Rattle.store_machine.specs.History.{IsId};
+ghost use Rattle.store_core.specs.Records.{Shared, founds};
 ghost use Rattle.par_search.specs.Groups.{AreBoth, GoesOn};
+ghost use Rattle.par_search.specs.Searches.{place_after, place_of};
 ghost use Rattle.par_search.specs.Shares.{CanFetch, FetchesInto};
 
 use crate::calls::fetch;
 use crate::fault::SearchFault;
-use crate::search::next_from;
 use chem_core::Print;
 use snap_registry::Pin;
-use store_core::{Page, Service};
+use std::sync::Arc;
+use store_core::{Page, Record, Service};
 
 /// The most pages that are searched together.
 pub const MOST_PAGES: u32 = 64;
@@ -94,4 +98,20 @@ pub fn fetch_pages<S: Service>(
         }
     }
     fetched
+}
+
+// Where a search goes on after a page that was fetched from an identifier on.
+pub(crate) fn next_from(last: bool, from: u32, records: &[Arc<Record>]) -> Option<u32>
+    requires in_range { All (λ (r : Shared). IsId (arc_value r).id) records.now }
+    requires from { from ≤ 1000000000 }
+    ensures place { place_of result ≡ place_after from (founds records.now) last }
+    ensures in_range { IfSome result (λ id. id ≤ 1000000000) }
+{
+    if last {
+        return None;
+    }
+    Some(match records.last() {
+        None => from,
+        Some(record) => record.id() + 1,
+    })
 }

@@ -1,5 +1,5 @@
 //! The pieces of a page, each matched by its worker.
-ghost use Rattle.std.specs.Prelude.{◌≡◌, ◌≤◌, ◌<◌, ◌+◌, ◌++◌, ◌*◌, All, List, drop, false, length, slice_index_or, take, vec_capacity};
+ghost use Rattle.std.specs.Prelude.{◌≡◌, ◌≤◌, ◌<◌, ◌+◌, ◌++◌, ◌*◌, All, List, false, length, slice_index_or, vec_capacity};
 ghost use Rattle.std.specs.Int.{div_ceil};
 ghost use Rattle.smarts_parse.specs.Pattern.{PatternTerm, pattern_of};
 ghost use Rattle.smarts_parse.specs.Sound.{IsSoundPattern};
@@ -10,7 +10,7 @@ ghost use Rattle.par_search.specs.Flags.{AreFlagged, AreFlags, HasSameRoom, Have
 ghost use Rattle.par_search.specs.declared.pieces.TheConstants.{MOST_WORKERS};
 
 use crate::meter::Meter;
-use crate::worker::Worker;
+use crate::worker::{Worker, cut};
 use mol_finish::one_structure;
 use smarts_parse::Pattern;
 use std::sync::Arc;
@@ -84,15 +84,6 @@ fn piece_at<T>(items: &[T], size: usize, number: usize) -> &[T]
     let start = number.saturating_mul(size).min(items.len());
     let end = start + size.min(items.len() - start);
     &items[start..end]
-}
-
-// The first piece of this size, and the records behind it.
-pub(crate) fn cut(records: &[Arc<Record>], size: usize) -> (&[Arc<Record>], &[Arc<Record>])
-    ensures piece { result.0.now ≡ take size records.now }
-    ensures behind { result.1.now ≡ drop size records.now }
-{
-    let end = size.min(records.len());
-    (&records[..end], &records[end..])
 }
 
 /// The identifiers of the records that are flagged, in order.

@@ -1,24 +1,22 @@
 //! A search that is under way.
-ghost use Rattle.std.specs.Prelude.{◌≡◌, ◌≢◌, ◌≤◌, ◌↔◌, ◌⊎◌, All, Err, IfErr, IfOk, IfSome, length, ℕ};
-ghost use Rattle.std.specs.Arc.{arc_value};
+ghost use Rattle.std.specs.Prelude.{◌≡◌, ◌≢◌, ◌≤◌, ◌↔◌, ◌⊎◌, Err, IfErr, IfOk, length, ℕ};
 ghost use Rattle.std.specs.Borrow.{sem};
 ghost use Rattle.smarts_parse.specs.Pattern.{pattern_of};
 ghost use Rattle.smarts_parse.specs.Sound.{IsSoundPattern};
 ghost use Rattle.store_machine.specs.Answers.{AreMatched};
-ghost use Rattle.store_machine.specs.History.{IsId};
 ghost use Rattle.store_machine.specs.Searches.{End};
 ghost use Rattle.store_machine.specs.declared.machine.State.{State};
 ghost use Rattle.store_core.specs.Calls.{Calls, NotRaised, SameHeld, WornAs};
-ghost use Rattle.store_core.specs.Records.{Shared, founds};
+ghost use Rattle.store_core.specs.Records.{founds};
 ghost use Rattle.par_search.specs.Batches.{IsBatch, MovesBehind};
-ghost use Rattle.par_search.specs.Searches.{HasBegun, IsBegun, IsReturned, IsSearch, close_calls, is_worn, next_calls, place_after, place_of, start_calls};
+ghost use Rattle.par_search.specs.Searches.{HasBegun, IsBegun, IsReturned, IsSearch, close_calls, is_worn, next_calls, start_calls};
 ghost use Rattle.par_search.specs.Moves.{IsEnded, Moves};
 ghost use Rattle.par_search.specs.declared.batch.TheConstants.{MOST_PAGES};
 ghost use Rattle.par_search.specs.declared.fault.SearchFault.TheVariants.{NoMemory, Pins, Worn};
 ghost use Rattle.par_search.specs.declared.pieces.TheConstants.{MOST_WORKERS};
 ghost use Rattle.par_search.specs.declared.worker.TheConstants.{MOST_RECORDS};
 
-use crate::batch::BatchHits;
+use crate::batch::{BatchHits, next_from};
 use crate::fault::SearchFault;
 use crate::meter::Meter;
 use crate::room::{PageHits, Room};
@@ -28,9 +26,8 @@ use smarts_parse::Pattern;
 use snap_registry::Pin;
 use std::alloc::Global;
 use std::marker::Model;
-use std::sync::Arc;
 use std::thread::Threads;
-use store_core::{CallFault, Record, Service};
+use store_core::{CallFault, Service};
 
 /// A search by the pages of one pin. Contracts see its pattern, what the pattern needs of a print, its pin, the size of
 /// its pages, how many of them it searches together, and where it is: at the identifier from which it fetches next, or
@@ -232,20 +229,4 @@ impl Search {
             Err(CallFault::NoMemory) => Err(SearchFault::NoMemory),
         }
     }
-}
-
-// Where a search goes on after a page that was fetched from an identifier on.
-pub(crate) fn next_from(last: bool, from: u32, records: &[Arc<Record>]) -> Option<u32>
-    requires in_range { All (λ (r : Shared). IsId (arc_value r).id) records.now }
-    requires from { from ≤ 1000000000 }
-    ensures place { place_of result ≡ place_after from (founds records.now) last }
-    ensures in_range { IfSome result (λ id. id ≤ 1000000000) }
-{
-    if last {
-        return None;
-    }
-    Some(match records.last() {
-        None => from,
-        Some(record) => record.id() + 1,
-    })
 }

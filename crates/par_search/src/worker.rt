@@ -11,7 +11,6 @@ ghost use Rattle.par_search.specs.Flags.{AreFlags, HasSameRoom};
 ghost use Rattle.par_search.specs.Shares.{records_in};
 ghost use Rattle.par_search.specs.declared.worker.TheConstants.{MOST_RECORDS};
 
-use crate::pieces::cut;
 use matcher::Scratch;
 use mol_finish::one_structure;
 use smarts_parse::Pattern;
@@ -124,6 +123,15 @@ impl Worker {
             find_in(&mut self.scratch, part, pattern, &mut self.hits);
         }
     }
+}
+
+// The first piece of this size, and the records behind it.
+pub(crate) fn cut(records: &[Arc<Record>], size: usize) -> (&[Arc<Record>], &[Arc<Record>])
+    ensures piece { result.0.now ≡ take size records.now }
+    ensures behind { result.1.now ≡ drop size records.now }
+{
+    let end = size.min(records.len());
+    (&records[..end], &records[end..])
 }
 
 // Adds the identifiers of those records that the pattern matches.

@@ -55,8 +55,9 @@ module _ {D : Type 0} (model : DiskModel D) (law : RunsStaySound) (heads : Rebas
 
   -- a step to a state of this history, with this copy
   step : (copy : Option CopyTerm) (t : State) (r : Reply) → t.faults ≡ (counted model pair s).faults
-      → CompactGives s r t → t.history ≡ s.history → t.limit ≡ s.limit → t.pins ≡ s.pins → t.kept ≡ s.kept → t.serves ≡ true
-      → HasCopy t.history t.copy copy → HasHeader t.generation t.history copy (progress_of pair.other)
+      → CompactGives s r t → t.history ≡ s.history → t.limit ≡ s.limit → t.pins ≡ s.pins → t.kept ≡ s.kept
+      → t.serves ≡ true → HasCopy t.history t.copy copy
+      → HasHeader t.generation t.history copy (progress_of pair.other)
       → pair.journal.header ≡ (on_pair t).now.header
       → IfBothTold model pair (StandsOnDisks model pair (on_pair t))
       → Calls (Stretches model) all store (new copy) s ((Compact, r) ∷ [])

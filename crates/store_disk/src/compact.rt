@@ -11,9 +11,9 @@ ghost use Rattle.store_disk.specs.Items.{ItemGives, left};
 ghost use Rattle.store_disk.specs.OnDisk.{StandsFor};
 ghost use Rattle.store_disk.specs.Stored.{Stretches};
 
+use crate::below::laws;
 use crate::copy::Copying;
 use crate::item::put_next;
-use crate::laws::laws;
 use crate::store::Store;
 use disk_edge::Disk;
 use disk_pair::PutFault;

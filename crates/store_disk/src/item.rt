@@ -9,8 +9,8 @@ ghost use Rattle.store_disk.specs.Copies.{copy_of};
 ghost use Rattle.store_disk.specs.Items.{AddsItem, CopyGoesOn, left};
 ghost use Rattle.store_disk.specs.OnDisk.{IsFollowed, Lacks};
 
+use crate::below::laws;
 use crate::copy::Copying;
-use crate::laws::laws;
 use crate::payload::base_payload_of;
 use disk_edge::Disk;
 use disk_pair::{Pair, PutFault};

@@ -1,21 +1,16 @@
-//! What the bytes of two disks open to, as laws of any bytes and of any store, and the laws on which the store's proofs
-//! stand.
+//! What the bytes of two disks open to, as laws of any bytes and of any store.
 ghost use Rattle.std.specs.Prelude.{◌≡◌, ◌≤◌, ◌<◌, ◌+◌, ◌-◌, ◌++◌, [], ◌∷◌, List, length, None, slice_index_or, Some, ℕ};
 ghost use Rattle.std.specs.FinMap.{entries};
 ghost use Rattle.disk_pair.specs.Gives.{empty_copy};
-ghost use Rattle.disk_pair.specs.Pairs.{History as Written, MayShow, PairOpensTo, State as PairState, with_base, with_commit};
-ghost use Rattle.disk_pair.specs.Stands.{StandsFor as PairStandsFor};
+ghost use Rattle.disk_pair.specs.Pairs.{History as Written, MayShow, with_base, with_commit};
 ghost use Rattle.disk_pair.specs.Term.{OfEachPair, next_header};
 ghost use Rattle.journal_core.specs.Fronts.{IsFront, IsOpen};
 ghost use Rattle.journal_core.specs.Records.{prefix};
 ghost use Rattle.journal_core.specs.declared.format.TheConstants.{CLOSED};
-ghost use Rattle.store_core.specs.Beside.{CallsServe};
-ghost use Rattle.store_core.specs.Copied.{KeepsCopied};
 ghost use Rattle.store_machine.specs.History.{IsHistory, head};
-ghost use Rattle.store_machine.specs.Laws.{IsSound, RunsStaySound};
+ghost use Rattle.store_machine.specs.Laws.{IsSound};
 ghost use Rattle.store_machine.specs.Machine.{Recovers, committed, copying, now, replaced};
 ghost use Rattle.store_machine.specs.Owners.{SameButOwners};
-ghost use Rattle.store_machine.specs.Rebases.{RebasesGrow, RebasesKeepHeads};
 ghost use Rattle.store_machine.specs.declared.machine.Change.{Change};
 ghost use Rattle.store_machine.specs.declared.machine.History.{History};
 ghost use Rattle.store_machine.specs.declared.machine.State.{State};
@@ -23,12 +18,12 @@ ghost use Rattle.store_disk.specs.Loads.{Damages, OpensAfter, OpensTo};
 ghost use Rattle.store_disk.specs.OnDisk.{StandsFor, StoreTerm, lacking, on_pair, whole_copy};
 ghost use Rattle.store_disk.specs.Payloads.{history_of, payload, payloads};
 
+use crate::below::laws;
 use crate::store::Store;
 use commit_log::{a_base_reads_one_way, a_log_reads_one_way};
 use disk_edge::Disk;
-use disk_pair::{Pair, a_crash_leaves_one, a_pair_opens_one_way};
-use store_core::{calls_serve_any_disks, versions_in_use_are_kept};
-use store_machine::{rebases_keep, runs_stay_sound};
+use disk_pair::a_pair_opens_one_way;
+use store_machine::rebases_keep;
 
 /// Two disks open to one history, in one generation, or are damaged at one place, or neither is open, and never two of
 /// these.
@@ -124,21 +119,4 @@ pub fn stores_ask_no_owner<D: Disk>()
 {
     store_core::stores_ask_no_owner();
     store_machine::owners_are_free();
-}
-
-/// They take no time.
-pub(crate) fn laws<D: Disk>(pair: &Pair<D>)
-    ensures serve { CallsServe }
-    ensures keep { KeepsCopied }
-    ensures sound { RunsStaySound }
-    ensures heads { RebasesKeepHeads }
-    ensures grown { RebasesGrow }
-    ensures leaves { (s : PairState) → PairStandsFor D.model pair.now s
-        → OfEachPair D.model pair.now (PairOpensTo (MayShow s)) }
-{
-    calls_serve_any_disks();
-    versions_in_use_are_kept();
-    rebases_keep();
-    runs_stay_sound();
-    a_crash_leaves_one(pair);
 }

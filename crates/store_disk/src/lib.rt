@@ -12,6 +12,7 @@
 //! nowhere.
 #![tactic(auto)]
 
+mod below;
 mod compact;
 mod copy;
 mod disks;

@@ -31,9 +31,9 @@ ghost use Rattle.store_disk.specs.Faults.{commit_fault};
 ghost use Rattle.store_disk.specs.Replays.{IsLoaded};
 ghost use Rattle.store_disk.specs.Stored.{Stretches};
 
+use crate::below::laws;
 use crate::copy::{Copying, queue, reserve};
 use crate::disks::Disks;
-use crate::laws::laws;
 use crate::payload::payload_of;
 use crate::replay::replay;
 use chem_core::Print;

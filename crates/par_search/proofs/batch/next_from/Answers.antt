@@ -2,7 +2,7 @@ use Rattle.std.proofs.Common.{◌+◌, ◌∙◌, ap, sym}
 use Rattle.store_machine.specs.Searches.{At}
 use Rattle.store_core.specs.Records.{RecordTerm}
 use Rattle.par_search.proofs.LastOne.{past-last}
-use Rattle.par_search.proofs.search.next_from.Goals as goal
+use Rattle.par_search.proofs.batch.next_from.Goals as goal
 
 pub returns-in-Some-clause-place : goal.returns-in-Some-clause-place
 returns-in-Some-clause-place c =
