@@ -53,7 +53,32 @@ pub fn session<R: Threads + Sync, S: Service, I: Source, O: Sink, M: Meter>(
         return EndStatus::NoMemory;
     };
     let matching = Matching { rt, meter };
-    let end = serve(&matching, service, source, sink, &mut lines, &mut responder);
+    serve_and_close(&matching, service, source, sink, &mut lines, &mut responder)
+}
+
+// Answers requests until the session ends. The pins of the cursors that are still open are given back then, unless the
+// service is worn.
+fn serve_and_close<R: Threads + Sync, S: Service, I: Source, O: Sink, M: Meter>(
+    matching: &Matching<'_, R, M>,
+    service: &mut S,
+    source: &mut I,
+    sink: &mut O,
+    lines: &mut Lines,
+    responder: &mut Responder,
+) -> EndStatus
+    requires fit { IsFit responder.old.cursors }
+    requires none { opened responder.old.cursors ≡ [] }
+    requires unwatched { responder.old.watches.watches ≡ [] }
+    requires fresh { IsFresh lines.old }
+    ensures serves { (calls : Calls) × Makes S.at S.owns S.stretch service.old service.new calls
+        × IsServedBy result responder.old.cursors.settings.page (I.left source.old) (I.left source.new)
+        (O.written sink.old) (O.written sink.new) calls }
+    ensures pins { result ≢ EndStatus.Worn → SameHeld (S.holds service.old) (S.holds service.new) }
+    ensures worn { result ≡ EndStatus.Worn → S.worn service.new }
+    ensures ends { EndsAs I.Source O.Sink result lines.old.limit source.old source.new sink.old sink.new }
+    ensures bounds { NotRaised (S.bounds service.old) (S.bounds service.new) }
+{
+    let end = serve(matching, service, source, sink, lines, responder);
     match end {
         EndStatus::Worn => EndStatus::Worn,
         _ => match responder.cursors.close_all(service) {
