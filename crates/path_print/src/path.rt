@@ -192,10 +192,7 @@ fn bit_of(text: &Option<Text>) -> Option<u16>
     ensures value { result ≡ option_map (λ t. bit_of t.there t.back) text.now }
     ensures small { IfSome result (λ bit. bit < 1024) }
 {
-    match text {
-        Some(text) => Some(text.bit()),
-        None => None,
-    }
+    Some(text.as_ref()?.bit())
 }
 
 // Sets the bit of a text, if there is one.

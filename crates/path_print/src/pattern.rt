@@ -337,10 +337,8 @@ fn path_to(sheet: &Sheet, path: &Path, atom: u16) -> Option<Path>
     ensures some { IfSome result (IsOneLonger (views_of sheet.now) path.now atom) }
     ensures none { IfNone result (NoneFrom (views_of sheet.now) (atom ∷ reverse path.now.atoms)) }
 {
-    match step_to(sheet, path, atom) {
-        Some(step) => path.longer(atom, step.byte, step.known),
-        None => None,
-    }
+    let step = step_to(sheet, path, atom)?;
+    path.longer(atom, step.byte, step.known)
 }
 
 // The step to an atom. `None` where no bond to it has a byte.

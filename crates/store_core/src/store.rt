@@ -415,13 +415,9 @@ fn own_print(entry: &Option<Arc<Record>>) -> Option<&Print>
     ensures print { option_copied result ≡ option_map (λ (r : Shared). (arc_value r).print) entry.now }
     ensures sound { IfSome entry.now (λ r. IsRecord (arc_value r)) }
 {
-    match entry {
-        Some(record) => {
-            let _ = record.id();
-            Some(record.print())
-        }
-        None => None,
-    }
+    let record = entry.as_ref()?;
+    let _ = record.id();
+    Some(record.print())
 }
 
 // Live and withdrawn identifiers with one more, which is live where it has a record.

@@ -25,20 +25,14 @@ impl<D: Disk + Drop> Store<D> {
     pub(crate) fn copied(&self) -> Option<u32>
         ensures { result ≡ option_map (λ c. c.version) self.now.copy }
     {
-        match &self.copy {
-            Some(copy) => Some(copy.version),
-            None => None,
-        }
+        Some(self.copy.as_ref()?.version)
     }
 
     /// How many items it lacks.
     pub(crate) fn left(&self) -> Option<u32>
         ensures { result ≡ option_map left self.now.copy }
     {
-        match &self.copy {
-            Some(copy) => Some(copy.left()),
-            None => None,
-        }
+        Some(self.copy.as_ref()?.left())
     }
 
     /// Starts a copy at the head, unless no generation is left.
