@@ -122,12 +122,7 @@ impl Window {
     }
 
     // The number in the four bytes from a place on, the lowest first.
-    fn number_at<D: Disk>(
-        &mut self,
-        disk: &mut D,
-        at: u64,
-        len: u64,
-    ) -> Result<u32, DiskFail>
+    fn number_at<D: Disk>(&mut self, disk: &mut D, at: u64, len: u64) -> Result<u32, DiskFail>
         requires inside { at + 4 ≤ len }
         requires len { IfTold (D.model.content disk.old) (λ l. len ≡ length l) }
         requires holds { Holds (D.model.content disk.old) self.old }
