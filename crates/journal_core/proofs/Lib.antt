@@ -1,4 +1,3 @@
-mod BaseTail
 mod Crash
 mod Created
 pub mod FrontLaws

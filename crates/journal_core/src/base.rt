@@ -6,7 +6,6 @@ ghost use Rattle.journal_core.specs.Found.{IsBase, Holds};
 ghost use Rattle.journal_core.specs.Looks.{Looks};
 ghost use Rattle.journal_core.specs.Records.{IsShort};
 
-use crate::format::LONGEST_PAYLOAD;
 use crate::window::Window;
 use disk_edge::{Disk, DiskFail};
 use std::alloc::Global;
@@ -29,12 +28,8 @@ pub(crate) fn base_at<D: Disk>(
     ensures failed { OnFailed result (Faulted D.model disk.old disk.new) }
 {
     let len = window.measure(disk)?;
-    if len < place || len - place < 4 {
-        return Ok(None);
+    match window.payload_at(alloc, disk, place, len)? {
+        Some(payload) if !payload.is_empty() => Ok(Some(payload)),
+        _ => Ok(None),
     }
-    let size = window.number_at(disk, place, len)? as usize;
-    if size == 0 || size > LONGEST_PAYLOAD || len - place - 4 < size as u64 {
-        return Ok(None);
-    }
-    Ok(Some(window.copy_at(alloc, disk, place + 4, size, len)?))
 }

@@ -1,11 +1,13 @@
 //! A window on a disk's bytes, so that records are read in large pieces.
 
-ghost use Rattle.std.specs.Prelude.{◌≡◌, ◌<◌, ◌≤◌, ◌+◌, ◌-◌, ◌^◌, [], ◌∷◌, None, Some, length, take, drop, OnOk, IfOk, true};
+ghost use Rattle.std.specs.Prelude.{◌≡◌, ◌<◌, ◌≤◌, ◌+◌, ◌-◌, ◌^◌, [], ◌∷◌, None, Some, length, take, drop, OnOk, IfOk, IfSome, true};
 ghost use Rattle.std.specs.Int.{to_le_bytes, w32};
 ghost use Rattle.disk_edge.specs.Disk.{IfTold, OnFailed, Faulted};
-ghost use Rattle.journal_core.specs.Found.{Holds, Covers};
+ghost use Rattle.journal_core.specs.Found.{Holds, Covers, IsPayload};
 ghost use Rattle.journal_core.specs.Looks.{Looks};
+ghost use Rattle.journal_core.specs.Records.{IsShort};
 
+use crate::format::LONGEST_PAYLOAD;
 use disk_edge::{Disk, DiskFail};
 use std::alloc::Global;
 
@@ -90,13 +92,37 @@ impl Window {
         Ok(self.shown(at, 1)[0])
     }
 
-    /// The number in the four bytes from a place on, the lowest first.
-    pub(crate) fn number_at<D: Disk>(
+    /// The payload behind its length, which is in the four bytes from a place on. `None` where the length or the payload is
+    /// missing, or too long.
+    pub(crate) fn payload_at<D: Disk>(
         &mut self,
+        alloc: Global,
         disk: &mut D,
         at: u64,
         len: u64,
-    ) -> Result<u32, DiskFail>
+    ) -> Result<Option<Vec<u8>>, DiskFail>
+        requires len { IfTold (D.model.content disk.old) (λ l. len ≡ length l) }
+        requires holds { Holds (D.model.content disk.old) self.old }
+        ensures found { IfOk result (λ found. IfTold (D.model.content disk.old)
+            (λ l. IsPayload found (drop at l))) }
+        ensures ends { IfOk result (λ found. IfSome found (λ payload. IsShort payload.items
+            × (at + 4 + length payload.items < 2 ^ 64))) }
+        ensures holds { Holds (D.model.content disk.new) self.new }
+        ensures looks { Looks D.model disk.old disk.new }
+        ensures failed { OnFailed result (Faulted D.model disk.old disk.new) }
+    {
+        if len < at || len - at < 4 {
+            return Ok(None);
+        }
+        let size = self.number_at(disk, at, len)? as usize;
+        if size > LONGEST_PAYLOAD || len - at - 4 < size as u64 {
+            return Ok(None);
+        }
+        Ok(Some(self.copy_at(alloc, disk, at + 4, size, len)?))
+    }
+
+    // The number in the four bytes from a place on, the lowest first.
+    fn number_at<D: Disk>(&mut self, disk: &mut D, at: u64, len: u64) -> Result<u32, DiskFail>
         requires inside { at + 4 ≤ len }
         requires len { IfTold (D.model.content disk.old) (λ l. len ≡ length l) }
         requires holds { Holds (D.model.content disk.old) self.old }
@@ -110,8 +136,8 @@ impl Window {
         Ok(number_of(self.shown(at, 4)))
     }
 
-    /// A copy of `count` bytes from a place on.
-    pub(crate) fn copy_at<D: Disk>(
+    // A copy of `count` bytes from a place on.
+    fn copy_at<D: Disk>(
         &mut self,
         alloc: Global,
         disk: &mut D,

@@ -9,6 +9,17 @@ pub returns-then-len-lt8-clause-found : goal.returns-then-len-lt8-clause-found
 returns-then-len-lt8-clause-found g c l told is_open =
     omega (arith, is_long l is_open, c.in_ok-len.ensures.length l told, c.if-len-lt8.true)
 
+pub returns-in_err-read_at-clause-looks : goal.returns-in_err-read_at-clause-looks
+returns-in_err-read_at-clause-looks g c =
+    let d = g.D.Disk.model in
+    let call = looks_call d in
+    let len = c.in_ok-len.ensures in
+    let read = c.read_at.ensures in
+    looks_twice d g.met.D.Disk.parts c.args.disk.now
+    c.len.new.self c.read_at.new.self
+    (call c.args.disk.now c.len.new.self len.content len.images len.time len.count)
+    (call c.len.new.self c.read_at.new.self read.content read.images read.time read.count)
+
 pub returns-then-eq-clause-looks : goal.returns-then-eq-clause-looks
 returns-then-eq-clause-looks g c =
     let d = g.D.Disk.model in
