@@ -1,68 +1,102 @@
 //! An index of three prints, worked by hand.
-ghost use Rattle.std.specs.Prelude.{◌<◌};
+ghost use Rattle.std.specs.Prelude.{◌≡◌, OnOk};
+ghost use Rattle.screen_index.specs.Pairs.{Lacks, put_in, rank};
 
 use crate::{Hint, ScreenIndex};
 use chem_core::Print;
+use std::alloc::{AllocError, Global};
 use std::test::Fail;
 
+/// Two bits that are wanted, the place from which on, and the next pair.
+type Row = ((u16, u16), (u32, u32), Option<(u32, u32)>);
+
+const ROWS: &[Row] = &[
+    ((1, 1), (0, 0), Some((5, 1))),
+    ((1, 1), (5, 2), Some((5, 2))),
+    ((1, 1), (5, 3), None),
+    ((9, 9), (5, 2), Some((8, 3))),
+    ((70, 70), (0, 0), Some((5, 2))),
+    ((70, 9), (0, 0), None),
+];
+
+// The same index without version 2 of identifier 5.
+const PRUNED: &[Row] = &[((1, 1), (5, 2), None), ((1, 1), (0, 0), Some((5, 1)))];
+
+// The hint for a first search, others that are wrong for most places, and two that are beyond the end.
+const HINTS: &[Hint] = &[
+    Hint { block: 0, place: 0 },
+    Hint { block: 0, place: 1 },
+    Hint { block: 0, place: 2 },
+    Hint { block: 0, place: 3 },
+    Hint {
+        block: 0,
+        place: usize::MAX,
+    },
+    Hint { block: 9, place: 1 },
+];
+
 // The print of two bits.
-fn print_of(one: u16, other: u16) -> Print
-    requires one { one < 1024 }
-    requires other { other < 1024 }
-{
+fn print_of(one: u16, other: u16) -> Print {
     let mut print = Print::empty();
-    print.set(one);
-    print.set(other);
+    print.set(one % 1024);
+    print.set(other % 1024);
     print
 }
 
-// The hint for a first search, others that are wrong for most places, and two that are beyond the end.
-fn hints() -> [Hint; 6] {
-    let hint = |block, place| Hint { block, place };
-    [
-        Hint::default(),
-        hint(0, 1),
-        hint(0, 2),
-        hint(0, 3),
-        hint(0, usize::MAX),
-        hint(9, 1),
-    ]
+fn put(index: &mut ScreenIndex, id: u32, version: u32, print: &Print) -> Result<(), AllocError>
+    requires { Lacks (rank id version) index.old.entries }
+    ensures { OnOk result (index.new.entries
+        ≡ put_in (record { id = id; version = version; print = print.now }) index.old.entries) }
+{
+    index.reserve(print)?;
+    index.add(id, version, print);
+    Ok(())
+}
+
+fn three_pairs(alloc: Global) -> Result<ScreenIndex, AllocError> {
+    let mut index = ScreenIndex::new(alloc);
+    put(&mut index, 5, 2, &print_of(1, 70))?;
+    put(&mut index, 8, 3, &print_of(9, 1023))?;
+    put(&mut index, 5, 1, &print_of(1, 9))?;
+    Ok(index)
+}
+
+fn next_of(index: &ScreenIndex, row: &Row, hint: &mut Hint) -> Option<(u32, u32)> {
+    let (bits, from, _) = *row;
+    index.next(&print_of(bits.0, bits.1), from, hint)
+}
+
+// What is found by the last hint and by each of the hints: another answer than that of the row, if one of them is.
+fn found(index: &ScreenIndex, row: &Row, last: &mut Hint) -> Option<(u32, u32)> {
+    let mut found = next_of(index, row, last);
+    for hint in HINTS {
+        let mut hint = *hint;
+        let next = next_of(index, row, &mut hint);
+        if next != row.2 {
+            found = next;
+        }
+    }
+    found
+}
+
+// The first row for which another pair is found, with that pair. Each is looked for also by the hint that the row before
+// it left.
+fn wrong(index: &ScreenIndex, rows: &[Row]) -> Option<(Row, Option<(u32, u32)>)> {
+    let mut last = Hint::default();
+    for row in rows {
+        let found = found(index, row, &mut last);
+        if found != row.2 {
+            return Some((*row, found));
+        }
+    }
+    None
 }
 
 #[test]
 fn the_next_pair_is_the_least_whose_print_holds(rt: HostRuntime) -> Result<(), Fail> {
-    let mut index = ScreenIndex::new(rt.alloc());
-    let (first, second, third) = (print_of(1, 9), print_of(1, 70), print_of(9, 1023));
-    index.reserve(&second)?;
-    index.add(5, 2, &second);
-    index.reserve(&third)?;
-    index.add(8, 3, &third);
-    index.reserve(&first)?;
-    index.add(5, 1, &first);
-    let rows = [
-        (print_of(1, 1), (0, 0), Some((5, 1))),
-        (print_of(1, 1), (5, 2), Some((5, 2))),
-        (print_of(1, 1), (5, 3), None),
-        (print_of(9, 9), (5, 2), Some((8, 3))),
-        (print_of(70, 70), (0, 0), Some((5, 2))),
-        (print_of(70, 9), (0, 0), None),
-    ];
-    let mut last = Hint::default();
-    for (want, from, next) in rows {
-        assert_eq!(rt; index.next(&want, from, &mut last), next);
-        for hint in hints() {
-            let mut hint = hint;
-            assert_eq!(rt; index.next(&want, from, &mut hint), next);
-        }
-    }
+    let mut index = three_pairs(rt.alloc())?;
+    assert_eq!(rt; wrong(&index, ROWS), None);
     index.drop_all(&[(4, 9), (5, 2), (6, 1)]);
-    for hint in hints() {
-        let (mut hint, mut other) = (hint, hint);
-        assert_eq!(rt; index.next(&print_of(1, 1), (5, 2), &mut hint), None);
-        assert_eq!(rt;
-            index.next(&print_of(1, 1), (0, 0), &mut other),
-            Some((5, 1))
-        );
-    }
+    assert_eq!(rt; wrong(&index, PRUNED), None);
     Ok(())
 }
