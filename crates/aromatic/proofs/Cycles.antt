@@ -6,6 +6,7 @@ use Rattle.std.proofs.lemmas.List.Sorted.{IsPermutation-append_comm, IsPermutati
 use Rattle.std.proofs.lemmas.Option.{slice_get_within, same_Some}
 use Rattle.std.proofs.lemmas.Bool.{cases_lt, false≢true}
 use Rattle.chem_core.specs.Graph.{Ends, JoinsAt, next_place}
+use Rattle.chem_core.proofs.Neighbours.{joins_back}
 use Rattle.aromatic.specs.Huckel.{IsHuckelBy}
 use Rattle.aromatic.specs.declared.links.Link.{Link}
 use Rattle.aromatic.specs.Links.{AreClosed, AreMutual, IsCandidateAt, IsLinkBelow, links_at}
@@ -74,9 +75,6 @@ record IsOpen (ends : Ends) (rings : List Bool) (gives : List (Option ℕ)) (pat
 
 pub joins_within : (ends : Ends) (b x y : ℕ) → JoinsAt ends b x y → b < length ends
 joins_within ends b x y h = elim h [ inl q ↦ slice_get_within ends b _ q | inr q ↦ slice_get_within ends b _ q ]
-
-joins_back : (ends : Ends) (b x y : ℕ) → JoinsAt ends b x y → JoinsAt ends b y x
-joins_back ends b x y h = elim h [ inl q ↦ inr q | inr q ↦ inl q ]
 
 step_of : (n m k p q : ℕ) → p < n → q < n → k + 1 < n → (m + k ≡ p) ⊎ (m + k ≡ p + n) → (m + (k + 1) ≡ q)
     ⊎ (m + (k + 1) ≡ q + n) → (p + 1 ≡ q) ⊎ (p + 1 ≡ q + n)

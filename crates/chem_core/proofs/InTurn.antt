@@ -1,10 +1,10 @@
 -- Lists one after another: one more, and one of them read back.
-use Rattle.std.proofs.Common.{ℕ, suc, zero, ◌+◌, ◌-◌, ◌++◌, ◌<◌, ◌≤◌, ◌≡◌, List, [], ◌∷◌, drop, get_or, inl, inr, length, refl, slice_range, take, ap, ◌∙◌, arith}
+use Rattle.std.proofs.Common.{ℕ, suc, zero, ◌+◌, ◌-◌, ◌++◌, ◌<◌, ◌≤◌, ◌≡◌, List, [], ◌∷◌, drop, get_or, inl, inr, length, refl, slice_range, subst, sym, take, ap, ◌∙◌, arith}
 use Rattle.std.proofs.lemmas.Bool.{cases_lt}
-use Rattle.std.proofs.lemmas.List.{drop-append-le, get_or_default, get_or_past, length-append, length-drop, take-append-le, take_all, take_more}
+use Rattle.std.proofs.lemmas.List.{drop-append-le, get_or_default, get_or_past, length-append, length-drop, take-append-le, take_all}
 use Rattle.std.proofs.Math.Seq.{drop-append_seam}
-use Rattle.chem_core.specs.Graph.{AreNeighbourLists, AreNeighbours, Ends}
-use Rattle.chem_core.specs.Inside.{AreInTurn, end_of}
+use Rattle.chem_core.specs.Graph.{AreNeighbours, Ends, degree}
+use Rattle.chem_core.specs.Inside.{AreInTurn, AreNeighboursInTurn, end_of}
 
 -- what stands behind the last is the new one, up to then the default
 get_or-more : {Y : Type 0} (xs : List Y) (x d : Y) (k : ℕ) → k ≤ length xs → get_or (xs ++ x ∷ []) k d ≡ get_or xs k x
@@ -72,21 +72,44 @@ module _ {X : Type 0} where
         ];
       }
 
-  -- the same where the lists are the first of some
-  pub turn-step : (lists : List (List X)) (i : ℕ) (more items items' : List X) (starts starts' : List ℕ)
-      → i < length lists → get_or lists i [] ≡ more → AreInTurn (take i lists) items starts
-      → items' ≡ items ++ more → starts' ≡ starts ++ length items ∷ []
-      → AreInTurn (take (i + 1) lists) items' starts'
-  turn-step lists i more items items' starts starts' within is turn grown said =
-      let list : take (i + 1) lists ≡ take i lists ++ more ∷ [] =
-      take_more lists i [] within ∙ ap (λ x. take i lists ++ x ∷ []) is in
-      rw (list, grown, said) (turn-more (take i lists) more items starts turn)
+-- one atom more, with its neighbours
+pub turn-neighbours : (ends : Ends) (a : ℕ) (items items' added : List (ℕ × ℕ)) (starts starts' : List ℕ)
+    → AreNeighboursInTurn ends a items starts → AreNeighbours ends a added → length added ≡ degree ends a
+    → items' ≡ items ++ added → starts' ≡ starts ++ length items ∷ []
+    → AreNeighboursInTurn ends (a + 1) items' starts'
+turn-neighbours ends a items items' added starts starts' before are count grown said =
+    let many : length before.lists ≡ a = before.neighbours.count in
+    rw (grown, said) (record {
+      lists = before.lists ++ added ∷ [];
+      neighbours = record {
+        count = omega (arith, many, length-append before.lists (added ∷ []));
+        each = λ k within. (each k within).0;
+      };
+      counts = λ k within. (each k within).1;
+      turn = turn-more before.lists added items starts before.turn;
+    })
+  where
+    each : (k : ℕ) → k < a + 1 → AreNeighbours ends k (get_or (before.lists ++ added ∷ []) k [])
+        × (length (get_or (before.lists ++ added ∷ []) k []) ≡ degree ends k)
+    each k within =
+        let many : length before.lists ≡ a = before.neighbours.count in
+        elim (cases_lt k a) [
+          | inl less ↦
+              let inside : k < length before.lists = omega arith in
+              let same : get_or (before.lists ++ added ∷ []) k [] ≡ get_or before.lists k [] =
+              get_or-more before.lists added [] k (omega arith) ∙ get_or_default before.lists k added [] inside in
+              rw same (before.neighbours.each k less, before.counts k less)
+          | inr past ↦
+              let is : k ≡ a = omega arith in
+              let there : get_or (before.lists ++ added ∷ []) k [] ≡ added =
+              get_or-more before.lists added [] k (omega arith) ∙ get_or_past before.lists k added (omega arith) in
+              rw there (subst (λ x. AreNeighbours ends x added × (length added ≡ degree ends x)) (sym is) (are, count))
+        ]
 
 -- the neighbours of an atom, between its start and its end
-pub list-at : (ends : Ends) (n : ℕ) (items : List (ℕ × ℕ)) (starts : List ℕ)
-    → (lists : List (List (ℕ × ℕ))) × AreNeighbourLists ends n lists × AreInTurn lists items starts
+pub list-at : (ends : Ends) (n : ℕ) (items : List (ℕ × ℕ)) (starts : List ℕ) → AreNeighboursInTurn ends n items starts
     → (a from to : ℕ) → a < n → from ≡ get_or starts a 0 → to ≡ end_of items starts a
-    → AreNeighbours ends a (slice_range items from to)
-list-at ends n items starts (lists, are, turn) a from to within start end =
-    let there : a < length lists = omega (arith, within, are.count) in
-    rw (start, end, (turn.each a there).2) (are.each a within)
+    → AreNeighbours ends a (slice_range items from to) × (length (slice_range items from to) ≡ degree ends a)
+list-at ends n items starts h a from to within start end =
+    let there : a < length h.lists = omega (arith, within, h.neighbours.count) in
+    rw (start, end, (h.turn.each a there).2) (h.neighbours.each a within, h.counts a within)

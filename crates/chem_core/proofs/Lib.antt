@@ -1,6 +1,5 @@
 pub mod Ascending
 pub mod Counts
-pub mod Degrees
 pub mod Elements
 pub mod Facts
 pub mod Neighbours
@@ -8,3 +7,6 @@ pub mod Prints
 pub mod Shared
 pub mod Components
 pub mod InTurn
+pub mod Steps
+pub mod StepsFilled
+pub mod StepsSorted

@@ -1,10 +1,12 @@
 -- What a molecule keeps about its fields. For private clauses alone.
-use Rattle.std.specs.Prelude.{◌≡◌, ℕ, ◌+◌, ◌<◌, ◌≤◌, ◌↔◌, List, [], length, map, slice_index, slice_index_or, slice_range}
+use Rattle.std.specs.Prelude.{◌≡◌, ℕ, ◌+◌, ◌<◌, ◌≤◌, ◌↔◌, ◌++◌, List, [], length, map, slice_index, slice_index_or, slice_range, IsPermutation}
+use Rattle.std.specs.List.Sorted.{IsNonDecreasing}
+use Rattle.chem_core.specs.declared.adjacency.Step.{Step}
 use Rattle.chem_core.specs.declared.mol.Atom.{Atom}
 use Rattle.chem_core.specs.declared.mol.AtomFacts.{AtomFacts}
 use Rattle.chem_core.specs.declared.mol.Bond.{Bond}
 use Rattle.chem_core.specs.Bits.{HasBit}
-use Rattle.chem_core.specs.Graph.{AreNeighbourLists, IsRingBond}
+use Rattle.chem_core.specs.Graph.{Ends, AreNeighbourLists, IsRingBond, degree}
 use Rattle.chem_core.specs.Molecule.{IsMolecule, bond_ends}
 use Rattle.chem_core.specs.RingFacts.{AreSmallestRings}
 use Rattle.chem_core.specs.Component.{AreComponents}
@@ -21,11 +23,24 @@ pub record AreInTurn {X : Type 0} (lists : List (List X)) (items : List X) (star
       × (end_of items starts k ≤ length items)
       × (slice_range items (slice_index starts k) (end_of items starts k) ≡ slice_index_or lists k [])
 
+-- the neighbours of so many atoms, one after another, as many of each as bonds end at it
+pub record AreNeighboursInTurn (ends : Ends) (atoms : ℕ) (items : List (ℕ × ℕ)) (starts : List ℕ) : Type 0 where
+  pub lists : List (List (ℕ × ℕ))
+  pub neighbours : AreNeighbourLists ends atoms lists
+  pub counts : (a : ℕ) → a < atoms → length (slice_index_or lists a []) ≡ degree ends a
+  pub turn : AreInTurn lists items starts
+
+-- behind the pairs of before come those of the steps, in ascending order
+pub record AreSortedBehind (before : List (ℕ × ℕ)) (steps : List Step) (after : List (ℕ × ℕ)) : Type 0 where
+  pub added : List (ℕ × ℕ)
+  pub behind : after ≡ before ++ added
+  pub same : IsPermutation (map (λ s. (s.to, s.bond)) steps) added
+  pub ascending : IsNonDecreasing (map (λ p. p.0) added)
+
 pub record IsSoundInside (atoms : List Atom) (bonds : List Bond) (facts : List AtomFacts) (neighbours : List (ℕ × ℕ))
     (ring_bonds : List ℕ) : Type 0 where
   pub molecule : IsMolecule (record { atoms = atoms; bonds = bonds })
-  pub lists : (lists : List (List (ℕ × ℕ))) × AreNeighbourLists (bond_ends bonds) (length atoms) lists
-      × AreInTurn lists neighbours (map (λ f. f.first_neighbour) facts)
+  pub lists : AreNeighboursInTurn (bond_ends bonds) (length atoms) neighbours (map (λ f. f.first_neighbour) facts)
   pub rings : (b : ℕ) → b < length bonds → HasBit (bits_of ring_bonds) b ↔ IsRingBond (bond_ends bonds) b
   pub smallest : AreSmallestRings (length atoms) (bond_ends bonds) (map (λ f. f.smallest_ring) facts)
   pub components : AreComponents (length atoms) (bond_ends bonds) (map (λ f. f.component) facts)

@@ -10,3 +10,4 @@ pub mod Inside
 pub mod Words
 pub mod RingFacts
 pub mod Component
+pub mod Steps

@@ -2,6 +2,7 @@
 //! of the elements. The definitions that contracts share stand in `specs/`.
 #![tactic(auto)]
 
+mod adjacency;
 mod bits;
 mod element;
 mod limits;
@@ -9,6 +10,7 @@ mod mol;
 mod print;
 mod sketch;
 
+pub use adjacency::{Adjacency, Step};
 pub use element::{number_of, symbol_of};
 pub use limits::{MOST_ATOMS, MOST_BONDS, MOST_NEIGHBOURS, are_few_neighbours};
 pub use mol::{Atom, Bond, BondKind, Mol, one_neighbour_list, same_component};

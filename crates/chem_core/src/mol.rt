@@ -1,15 +1,16 @@
 //! Molecules: atoms and bonds as they are meant, each atom's neighbours, what lies on rings, and components.
-ghost use Rattle.std.specs.Prelude.{◌≡◌, ◌↔◌, ◌+◌, ◌<◌, ◌≤◌, ◌∷◌, ℕ, All, List, [], false, length, map, replicate, take, Contains, IsPermutation, IsTrue, nat_lt, position, slice_index_or, unwrap_or, IfOk, OnOk};
-ghost use Rattle.std.specs.List.Sorted.{IsStrictlyIncreasing};
-ghost use Rattle.chem_core.specs.Graph.{Ends, IsSimpleGraph, AreNeighbours, AreNeighbourLists, IsRingBond, IsSmallestRing, degree};
+ghost use Rattle.std.specs.Prelude.{◌≡◌, ◌↔◌, ◌+◌, ◌<◌, ◌≤◌, ℕ, List, false, length, map, IsTrue, slice_index_or, IfOk, OnOk};
+ghost use Rattle.chem_core.specs.Graph.{Ends, AreNeighbours, IsRingBond, IsSmallestRing, degree};
 ghost use Rattle.chem_core.specs.Molecule.{IsMolecule, bond_ends, ends_of};
-ghost use Rattle.chem_core.specs.Inside.{AreInTurn};
+ghost use Rattle.chem_core.specs.Inside.{AreNeighboursInTurn, AreSortedBehind};
 ghost use Rattle.chem_core.specs.RingFacts.{AreRingBonds, AreSmallestRings};
 ghost use Rattle.chem_core.specs.Component.{Reaches, IsComponent, AreComponents};
 ghost use Rattle.chem_core.specs.Words.{bits_of};
 
+use crate::adjacency::{Adjacency, Step};
 use crate::bits::{has_bit, set_bit};
-use crate::limits::{MOST_ATOMS, MOST_BONDS, MOST_NEIGHBOURS};
+use crate::limits::MOST_BONDS;
+use bumpalo::Bump;
 use smallvec::SmallVec;
 use std::alloc::{AllocError, Global};
 use std::marker::Model;
@@ -48,9 +49,6 @@ pub struct Bond {
     pub b: u16,
     pub kind: BondKind,
 }
-
-// The neighbours of an atom, each with the bond to it, while they are gathered.
-type Neighbours = SmallVec<(u16, u16), 4>;
 
 // A set of bonds, a bit for each. Up to 128 bonds take no block of memory.
 type BondSet = SmallVec<u64, 2>;
@@ -115,8 +113,38 @@ impl Mol {
         requires components { AreComponents (length atoms.items) (bond_ends bonds.items) component.items }
         ensures { IfOk result (λ mol. mol ≡ record { atoms = atoms.items; bonds = bonds.items }) }
     {
-        let lists = neighbour_lists(alloc, atoms.len(), &bonds)?;
-        let (facts, neighbours) = in_turn(alloc, &lists, 2 * bonds.len(), &atom_small, &component)?;
+        let arena = Bump::new(alloc);
+        let ends = bond_pairs(&arena, &bonds)?;
+        let adjacency = Adjacency::of_ends(&arena, atoms.len(), ends)?;
+        Mol::make_along(
+            alloc,
+            atoms,
+            bonds,
+            &adjacency,
+            bond_in_ring,
+            atom_small,
+            component,
+        )
+    }
+
+    /// The same, where the adjacency of its atoms and bonds is at hand.
+    pub fn make_along(
+        alloc: Global,
+        atoms: Vec<Atom>,
+        bonds: Vec<Bond>,
+        adjacency: &Adjacency<'_>,
+        bond_in_ring: Vec<bool>,
+        atom_small: Vec<u16>,
+        component: Vec<u16>,
+    ) -> Result<Mol, AllocError>
+        requires molecule { IsMolecule (record { atoms = atoms.items; bonds = bonds.items }) }
+        requires adjacency { adjacency.now ≡ record { atoms = length atoms.items; ends = bond_ends bonds.items } }
+        requires ring_bonds { AreRingBonds (bond_ends bonds.items) bond_in_ring.items }
+        requires smallest { AreSmallestRings (length atoms.items) (bond_ends bonds.items) atom_small.items }
+        requires components { AreComponents (length atoms.items) (bond_ends bonds.items) component.items }
+        ensures { IfOk result (λ mol. mol ≡ record { atoms = atoms.items; bonds = bonds.items }) }
+    {
+        let (facts, neighbours) = in_turn(alloc, adjacency, &atom_small, &component)?;
         let ring_bonds = bond_set(alloc, &bond_in_ring)?;
         Ok(Mol {
             atoms,
@@ -193,6 +221,13 @@ pub fn same_component()
         → (c ≡ d) ↔ Reaches ends a b }
 {}
 
+// The two ends of each bond.
+fn bond_pairs<'a>(arena: &'a Bump, bonds: &[Bond]) -> Result<Vec<(u16, u16), &'a Bump>, AllocError>
+    ensures { IfOk result (λ ends. ends.items ≡ bond_ends bonds.now) }
+{
+    bonds.iter().map(|bond| (bond.a, bond.b)).collect(arena)
+}
+
 // Where the neighbours of the atom at a place end, among those of all atoms, of which there are `count`.
 fn neighbours_end(facts: &[AtomFacts], place: usize, count: usize) -> usize
     requires { place < length facts.now }
@@ -203,52 +238,45 @@ fn neighbours_end(facts: &[AtomFacts], place: usize, count: usize) -> usize
         .map_or(count, |next| usize::from(next.first_neighbour))
 }
 
-// For each atom its neighbours, found in one pass over the bonds.
-fn neighbour_lists(
-    alloc: Global,
-    atoms: usize,
-    bonds: &[Bond],
-) -> Result<Vec<Neighbours>, AllocError>
-    requires { IsSimpleGraph atoms (bond_ends bonds.now) }
-    ensures { IfOk result
-        (λ lists. AreNeighbourLists (bond_ends bonds.now) atoms (map (λ v. v.items) lists.items)) }
-{
-    let mut lists = empty_lists(alloc, atoms)?;
-    for place in 0..bonds.len() {
-        join(&mut lists, bonds, place)?;
-    }
-    Ok(lists)
-}
-
-// The lists one after another, with room for so many pairs at first, and what is kept for each atom: where its list
-// begins, its smallest ring and its component.
+// The neighbours of all atoms in turn, and what is kept for each atom: where its neighbours begin, its smallest ring and
+// its component.
 fn in_turn(
     alloc: Global,
-    lists: &[Neighbours],
-    room: usize,
+    adjacency: &Adjacency<'_>,
     smallest_rings: &[u16],
     components: &[u16],
 ) -> Result<(Vec<AtomFacts>, Vec<(u16, u16)>), AllocError>
-    requires few { length lists.now ≤ MOST_ATOMS }
-    requires short { All (λ v. length v.items ≤ MOST_NEIGHBOURS) lists.now }
-    requires rings { length smallest_rings.now ≡ length lists.now }
-    requires components { length components.now ≡ length lists.now }
-    ensures turn { IfOk result (λ r. AreInTurn (map (λ v. v.items) lists.now) r.1.items
+    requires rings { length smallest_rings.now ≡ adjacency.now.atoms }
+    requires components { length components.now ≡ adjacency.now.atoms }
+    ensures turn { IfOk result (λ r. AreNeighboursInTurn adjacency.now.ends adjacency.now.atoms r.1.items
         (map (λ f. f.first_neighbour) r.0.items)) }
     ensures rings { IfOk result (λ r. map (λ f. f.smallest_ring) r.0.items ≡ smallest_rings.now) }
     ensures components { IfOk result (λ r. map (λ f. f.component) r.0.items ≡ components.now) }
 {
-    let mut facts = Vec::with_capacity(alloc, lists.len())?;
-    let mut pairs: Vec<(u16, u16)> = Vec::with_capacity(alloc, room)?;
-    for (place, list) in lists.iter().enumerate() {
+    let atoms = adjacency.atoms();
+    let mut facts = Vec::with_capacity(alloc, atoms)?;
+    let mut pairs: Vec<(u16, u16)> = Vec::with_capacity(alloc, 2 * adjacency.ends().len())?;
+    for atom in 0..atoms {
         facts.push(AtomFacts {
             first_neighbour: pairs.len() as u16,
-            smallest_ring: smallest_rings[place],
-            component: components[place],
+            smallest_ring: smallest_rings[atom],
+            component: components[atom],
         })?;
-        pairs.extend_from_slice(list.as_slice())?;
+        push_sorted(&mut pairs, adjacency.steps_from(atom as u16))?;
     }
     Ok((facts, pairs))
+}
+
+// Puts the steps behind the pairs, as pairs in ascending order.
+fn push_sorted(pairs: &mut Vec<(u16, u16)>, steps: &[Step]) -> Result<(), AllocError>
+    ensures { OnOk result (AreSortedBehind pairs.old.items steps.now pairs.new.items) }
+{
+    let start = pairs.len();
+    for step in steps {
+        pairs.push((step.to, step.bond))?;
+    }
+    pairs[start..].sort_unstable();
+    Ok(())
 }
 
 // The bonds at whose places the flags are set.
@@ -264,55 +292,4 @@ fn bond_set(alloc: Global, flags: &[bool]) -> Result<BondSet, AllocError>
         }
     }
     Ok(set)
-}
-
-fn empty_lists(alloc: Global, count: usize) -> Result<Vec<Neighbours>, AllocError>
-    ensures { IfOk result (λ lists. map (λ v. v.items) lists.items ≡ replicate count []) }
-{
-    let mut lists = Vec::with_capacity(alloc, count)?;
-    for _ in 0..count {
-        lists.push(SmallVec::new(alloc))?;
-    }
-    Ok(lists)
-}
-
-// Puts each end of the bond at a place into the list of the other, where those of the bonds before it are in.
-fn join(lists: &mut [Neighbours], bonds: &[Bond], place: usize) -> Result<(), AllocError>
-    requires graph { IsSimpleGraph (length lists.old) (bond_ends bonds.now) }
-    requires in_range { place < length bonds.now }
-    requires before { AreNeighbourLists (take place (bond_ends bonds.now)) (length lists.old)
-        (map (λ v. v.items) lists.old) }
-    ensures { OnOk result (AreNeighbourLists (take (place + 1) (bond_ends bonds.now))
-        (length lists.old) (map (λ v. v.items) lists.new)) }
-{
-    let bond = bonds[place];
-    put(&mut lists[usize::from(bond.a)], bond.b, place as u16)?;
-    put(&mut lists[usize::from(bond.b)], bond.a, place as u16)?;
-    Ok(())
-}
-
-// Puts a new neighbour at its place in a list that ascends. Such a list is at most 12 long.
-fn put(list: &mut Neighbours, neighbour: u16, bond: u16) -> Result<(), AllocError>
-    requires ascending { IsStrictlyIncreasing (map (λ p. p.0) list.old.items) }
-    requires new { (b : ℕ) → Contains list.old.items (neighbour, b) → ⊥ }
-    ensures ascending { OnOk result (IsStrictlyIncreasing (map (λ p. p.0) list.new.items)) }
-    ensures pair { OnOk result (IsPermutation ((neighbour, bond) ∷ list.old.items) list.new.items) }
-{
-    let place = place_of(list.as_slice(), neighbour);
-    if place == list.len() {
-        list.push((neighbour, bond))?;
-        return Ok(());
-    }
-    list.insert(place, (neighbour, bond))?;
-    Ok(())
-}
-
-// Where a neighbour goes: before the first that is higher.
-fn place_of(list: &[(u16, u16)], neighbour: u16) -> usize
-    ensures { result
-        ≡ unwrap_or (position (λ pair. nat_lt neighbour pair.0) list.now) (length list.now) }
-{
-    list.iter()
-        .position(|pair| pair.0 > neighbour)
-        .unwrap_or(list.len())
 }

@@ -1,6 +1,7 @@
 mod Marks
 mod Meaning
 mod Molecules
+mod Namings
 mod Stages
 mod Unique
 mod UniqueMol

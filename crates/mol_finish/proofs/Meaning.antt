@@ -13,6 +13,7 @@ use Rattle.chem_core.specs.Sketch.{SketchTerm}
 use Rattle.chem_core.specs.Molecule.{IsAtom, IsMolecule, bond_ends}
 use Rattle.chem_core.specs.RingFacts.{AreRingBonds, AreSmallestRings}
 use Rattle.chem_core.specs.Sound.{IsSketchAtom, IsSound, sketch_ends}
+use Rattle.chem_core.specs.Steps.{Network}
 use Rattle.mol_finish.specs.Meant.{meant_atom, meant_bond, meant_atoms, meant_bonds, meant}
 
 -- one more atom
@@ -80,6 +81,14 @@ pub made-molecule : (s : SketchTerm) (atoms bonds : List Bool) (valences : List 
     (joined : List Bond) → made ≡ meant_atoms atoms valences s.atoms → joined ≡ meant_bonds bonds s.bonds → IsSound s
     → IsMolecule (record { atoms = made; bonds = joined })
 made-molecule s atoms bonds valences made joined p q sound = rw (p, q) (meant-molecule s atoms bonds valences sound)
+
+-- an adjacency of the sketch is one of what was made
+pub made-network : (s : SketchTerm) (atoms bonds : List Bool) (valences : List ℕ) (made : List Atom)
+    (joined : List Bond) (network : Network) → made ≡ meant_atoms atoms valences s.atoms
+    → joined ≡ meant_bonds bonds s.bonds → network ≡ record { atoms = length s.atoms; ends = sketch_ends s }
+    → network ≡ record { atoms = length made; ends = bond_ends joined }
+made-network s atoms bonds valences made joined network p q h =
+    rw (p, q, meant-ends bonds s, length-meant_atoms atoms valences s.atoms) h
 
 pub made-rings : (s : SketchTerm) (bonds : List Bool) (joined : List Bond) (rings : List Bool)
     → joined ≡ meant_bonds bonds s.bonds → AreRingBonds (sketch_ends s) rings → AreRingBonds (bond_ends joined) rings

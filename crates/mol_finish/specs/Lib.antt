@@ -1,3 +1,4 @@
 pub mod Meant
+pub mod Naming
 pub mod Faults
 pub mod Structure

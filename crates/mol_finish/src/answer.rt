@@ -10,7 +10,7 @@ use crate::fault::{Format, TextFault};
 use crate::molecule::molecule;
 use aromatic::{AromFault, perceive_in};
 use bumpalo::Bump;
-use chem_core::{Mol, Sketch};
+use chem_core::{Adjacency, Mol, Sketch};
 use molfile_read::read_molfile_in;
 use ring_find::rings_in;
 use smiles_read::read_smiles_in;
@@ -89,7 +89,8 @@ fn of_sketch(alloc: Global, arena: &Bump, mut sketch: Sketch) -> Result<Mol, Aro
 {
     fill_hydrogens(&mut sketch);
     suppress(&mut sketch);
-    let rings = rings_in(alloc, arena, &sketch)?;
+    let adjacency = Adjacency::of(arena, &sketch)?;
+    let rings = rings_in(alloc, arena, &adjacency)?;
     let found = perceive_in(arena, &sketch, &rings.bond_in_ring)?;
-    Ok(molecule(alloc, &sketch, &found, rings)?)
+    Ok(molecule(alloc, arena, &sketch, &adjacency, &found, rings)?)
 }

@@ -1,72 +1,85 @@
 //! Components of a molecule: the atoms that bonds hold together, each named by its least atom.
-ghost use Rattle.std.specs.Prelude.{◌≡◌, ◌<◌, ◌+◌, ℕ, length, take, slice_index, IfOk};
-ghost use Rattle.chem_core.specs.Component.{AreComponents};
+ghost use Rattle.std.specs.Prelude.{◌≡◌, ◌<◌, ◌+◌, ℕ, [], All, length, slice_index, IfOk, OnOk};
 ghost use Rattle.chem_core.specs.Graph.{IsSimpleGraph};
-ghost use Rattle.chem_core.specs.Molecule.{bond_ends};
+ghost use Rattle.chem_core.specs.Component.{IsComponent, AreComponents};
+ghost use Rattle.mol_finish.specs.Naming.{IsNamed, IsNaming};
 
-use chem_core::Bond;
+use bumpalo::Bump;
+use chem_core::Adjacency;
 use std::alloc::{AllocError, Global};
+
+// Stands for the component of an atom that the walks have not come to.
+const NONE: u16 = u16::MAX;
 
 /// For each atom the least atom of its component. Fails only for want of memory.
 pub(crate) fn components(
     alloc: Global,
-    atoms: usize,
-    bonds: &[Bond],
+    arena: &Bump,
+    adjacency: &Adjacency<'_>,
 ) -> Result<Vec<u16>, AllocError>
-    requires { IsSimpleGraph atoms (bond_ends bonds.now) }
-    ensures { IfOk result (λ v. AreComponents atoms (bond_ends bonds.now) v.items) }
+    ensures { IfOk result (λ v. AreComponents adjacency.now.atoms adjacency.now.ends v.items) }
 {
-    let mut components = alone(alloc, atoms)?;
-    for place in 0..bonds.len() {
-        join(&mut components, bonds, place);
-    }
-    Ok(components)
-}
-
-// Each atom by itself.
-fn alone(alloc: Global, atoms: usize) -> Result<Vec<u16>, AllocError>
-    requires { atoms < 65536 }
-    ensures count { IfOk result (λ v. length v.items ≡ atoms) }
-    ensures each { IfOk result (λ v. (a : ℕ) → a < atoms → slice_index v.items a ≡ a) }
-{
-    let mut components = Vec::with_capacity(alloc, atoms)?;
+    let atoms = adjacency.atoms();
+    let mut components = vec![in alloc; NONE; atoms]?;
+    let mut queue = Vec::with_capacity(arena, atoms)?;
     for atom in 0..atoms {
-        components.push(atom as u16)?;
+        if components[atom] == NONE {
+            name_from(adjacency, atom as u16, &mut components, &mut queue)?;
+        }
     }
     Ok(components)
 }
 
-// Takes in the bond at a place after those before it: the components of its ends become one.
-fn join(components: &mut [u16], bonds: &[Bond], place: usize)
-    requires graph { IsSimpleGraph (length components.old) (bond_ends bonds.now) }
-    requires in_range { place < length bonds.now }
-    requires before { AreComponents (length components.old) (take place (bond_ends bonds.now)) components.old }
-    ensures { AreComponents (length components.old) (take (place + 1) (bond_ends bonds.now)) components.new }
+// Names the component of an atom, which no walk has come to, by that atom, its least.
+fn name_from(
+    adjacency: &Adjacency<'_>,
+    least: u16,
+    components: &mut [u16],
+    queue: &mut Vec<u16, &Bump>,
+) -> Result<(), AllocError>
+    requires graph { IsSimpleGraph adjacency.now.atoms adjacency.now.ends }
+    requires in_range { least < adjacency.now.atoms }
+    requires least { IsComponent adjacency.now.ends least least }
+    requires unnamed { slice_index components.old least ≡ NONE }
+    requires before { IsNaming adjacency.now.atoms adjacency.now.ends components.old [] 0 }
+    ensures after { OnOk result (IsNaming adjacency.now.atoms adjacency.now.ends components.new [] 0) }
+    ensures named { OnOk result (IsNamed components.new least) }
+    ensures kept { OnOk result ((a : ℕ) → IsNamed components.old a → IsNamed components.new a) }
 {
-    let bond = bonds[place];
-    let one = components[usize::from(bond.a)];
-    let two = components[usize::from(bond.b)];
-    rename(components, one.max(two), one.min(two));
-}
-
-// Gives a component another name.
-fn rename(components: &mut [u16], name: u16, other: u16)
-    ensures same { (a : ℕ) → a < length components.old → slice_index components.old a ≡ name
-        → slice_index components.new a ≡ other }
-    ensures others { (a : ℕ) → a < length components.old
-        → (slice_index components.old a ≡ name → ⊥)
-        → slice_index components.new a ≡ slice_index components.old a }
-{
-    for component in components.iter_mut() {
-        *component = renamed(*component, name, other);
+    queue.clear();
+    queue.push(least)?;
+    components[usize::from(least)] = least;
+    let mut next = 0;
+    while next < queue.len() {
+        visit(adjacency, least, next, components, queue)?;
+        next += 1;
     }
+    Ok(())
 }
 
-// Written without a branch, so that many names are looked at together.
-#[inline(always)]
-fn renamed(component: u16, name: u16, other: u16) -> u16
-    ensures same { component ≡ name → result ≡ other }
-    ensures others { (component ≡ name → ⊥) → result ≡ component }
+// Names the neighbours of the next atom of the queue that have no name yet, and puts them at the end of the queue.
+fn visit(
+    adjacency: &Adjacency<'_>,
+    least: u16,
+    next: usize,
+    components: &mut [u16],
+    queue: &mut Vec<u16, &Bump>,
+) -> Result<(), AllocError>
+    requires in_range { least < adjacency.now.atoms }
+    requires next { next < length queue.old.items }
+    requires queue { All (λ a. (a < adjacency.now.atoms) × IsComponent adjacency.now.ends a least) queue.old.items }
+    requires before { IsNaming adjacency.now.atoms adjacency.now.ends components.old queue.old.items next }
+    ensures queue { OnOk result
+        (All (λ a. (a < adjacency.now.atoms) × IsComponent adjacency.now.ends a least) queue.new.items) }
+    ensures after { OnOk result
+        (IsNaming adjacency.now.atoms adjacency.now.ends components.new queue.new.items (next + 1)) }
+    ensures kept { OnOk result ((a : ℕ) → IsNamed components.old a → IsNamed components.new a) }
 {
-    if component == name { other } else { component }
+    for step in adjacency.steps_from(queue[next]) {
+        if components[usize::from(step.to)] == NONE {
+            components[usize::from(step.to)] = least;
+            queue.push(step.to)?;
+        }
+    }
+    Ok(())
 }

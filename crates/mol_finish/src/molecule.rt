@@ -7,7 +7,7 @@ ghost use Rattle.mol_finish.specs.Meant.{written_kind, meant_kind, meant_atom, m
 use crate::components::components;
 use aromatic::Arom;
 use bumpalo::Bump;
-use chem_core::{Atom, Bond, BondKind, Mol, Sketch, SketchAtom, SketchBond, SketchKind};
+use chem_core::{Adjacency, Atom, Bond, BondKind, Mol, Sketch, SketchAtom, SketchBond, SketchKind};
 use ring_find::Rings;
 use std::alloc::{AllocError, Global};
 
@@ -15,11 +15,17 @@ use std::alloc::{AllocError, Global};
 /// want of memory.
 pub(crate) fn molecule(
     alloc: Global,
+    arena: &Bump,
     sketch: &Sketch,
+    adjacency: &Adjacency<'_>,
     found: &Arom<&Bump>,
     rings: Rings,
 ) -> Result<Mol, AllocError>
     requires sound { IsSound sketch.now }
+    requires adjacency { adjacency.now ≡ record {
+      atoms = length sketch.now.atoms;
+      ends = sketch_ends sketch.now;
+    } }
     requires atom_flags { length found.now.atoms.items ≡ length sketch.now.atoms }
     requires bond_flags { length found.now.bonds.items ≡ length sketch.now.bonds }
     requires sums { length found.now.valences.items ≡ length sketch.now.atoms }
@@ -30,11 +36,12 @@ pub(crate) fn molecule(
 {
     let atoms = atoms(alloc, &sketch.atoms, &found.atoms, &found.valences)?;
     let bonds = bonds(alloc, &sketch.bonds, &found.bonds)?;
-    let components = components(alloc, atoms.len(), &bonds)?;
-    Mol::make(
+    let components = components(alloc, arena, adjacency)?;
+    Mol::make_along(
         alloc,
         atoms,
         bonds,
+        adjacency,
         rings.bond_in_ring,
         rings.atom_small,
         components,

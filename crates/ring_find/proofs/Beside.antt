@@ -4,8 +4,8 @@ use Rattle.std.specs.Prelude.{◌==◌, ◌&&◌, not, slice_get, slice_index, s
 use Rattle.std.proofs.lemmas.Bool.{cases_eq, ne_eqb}
 use Rattle.std.proofs.lemmas.Option.{slice_get_within, get_or_from_slice_get}
 use Rattle.chem_core.specs.Graph.{Ends, JoinsAt, IsSimpleCycle, LiesOn}
-use Rattle.ring_find.specs.declared.graph.Step.{Step}
-use Rattle.ring_find.specs.Network.{AreStepsFrom}
+use Rattle.chem_core.specs.declared.adjacency.Step.{Step}
+use Rattle.chem_core.specs.Steps.{AreStepsFrom}
 use Rattle.ring_find.specs.BondRings.{KeepsRings, IsSmallestThrough}
 use Rattle.ring_find.specs.Strip.{IsOnlyBeside}
 use Rattle.ring_find.proofs.Cycles.{two_bonds_on}

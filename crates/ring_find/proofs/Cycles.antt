@@ -6,14 +6,12 @@ use Rattle.std.proofs.lemmas.Bool.{cases_lt, cases_eq}
 use Rattle.std.proofs.lemmas.Option.{same_Some}
 use Rattle.std.proofs.lemmas.List.{get_or_default}
 use Rattle.chem_core.specs.Graph.{Ends, JoinsAt, IsSimpleGraph, IsSimpleCycle, LiesOn, IsRingBond, next_place}
+use Rattle.chem_core.proofs.Neighbours.{joins_back}
 use Rattle.ring_find.specs.Walk.{StepBut, Walk, IsDistance}
 use Rattle.ring_find.specs.BondRings.{IsSmallestThrough, KeepsRings}
 use Rattle.ring_find.proofs.Walks.{walk_join, walk_back, walk_along, IsPath, path_of, path_distinct, IsMark}
 
 -- ---- what a bond joins
-
-pub joins_back : (ends : Ends) (b x y : ℕ) → JoinsAt ends b x y → JoinsAt ends b y x
-joins_back ends b x y h = elim h [ inl q ↦ inr q | inr q ↦ inl q ]
 
 pub same_pair : (a b x y : ℕ) → ◌≡◌ {A = ℕ × ℕ} (a, b) (x, y) → (a ≡ x) × (b ≡ y)
 same_pair a b x y e = (ap (λ p. p.0) e, ap (λ p. p.1) e)

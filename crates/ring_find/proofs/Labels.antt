@@ -8,7 +8,8 @@ use Rattle.ring_find.specs.Walk.{StepBut, Walk}
 use Rattle.ring_find.specs.BondRings.{KeepsRings}
 use Rattle.ring_find.specs.Bridges.{AreForest, AreTaken, LeadsDown}
 use Rattle.ring_find.proofs.Walks.{walk_back}
-use Rattle.ring_find.proofs.Cycles.{joins_back, joins_one, step_back, walk_from_cycle}
+use Rattle.chem_core.proofs.Neighbours.{joins_back}
+use Rattle.ring_find.proofs.Cycles.{joins_one, step_back, walk_from_cycle}
 use Rattle.ring_find.proofs.Strips.{keeps_all}
 
 -- ---- from label to label
@@ -110,13 +111,6 @@ down-is ends labels b x y m at (u, v, j, lt, is) = elim (joins_one ends b x y u 
       let ey : get_or labels y 0 ≡ get_or labels u 0 = ap (λ a. get_or labels a 0) q.1 in
       inr (omega (arith, lt, ex, ey), ex ∙ is)
 ]
-
-pub taken-none : (ends : Ends) (labels : List ℕ) (taken : List Bool) → AreTaken ends labels taken 0
-taken-none ends labels taken = record {
-  each = λ b m lt down. absurd (omega (arith, lt));
-  once =
-      λ b c m lt lt' down down'. absurd (omega (arith, lt));
-}
 
 pub taken-all : (ends : Ends) (labels : List ℕ) (taken : List Bool) (k : ℕ) → length ends ≤ k
     → AreTaken ends labels taken k → AreForest ends labels

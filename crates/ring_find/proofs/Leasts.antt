@@ -14,13 +14,6 @@ pub record IsLeastBefore (ends : Ends) (lengths : List ℕ) (i v n : ℕ) : Type
   pub some : n ≢ 0 → (c u : ℕ) × (c < i) × JoinsAt ends c v u × (get_or lengths c 0 ≡ n)
   pub least : (c u : ℕ) → c < i → JoinsAt ends c v u → get_or lengths c 0 ≢ 0 → n ≤ get_or lengths c 0
 
-pub least_start : (ends : Ends) (lengths : List ℕ) (v n : ℕ) → n ≡ 0 → IsLeastBefore ends lengths 0 v n
-least_start ends lengths v n z = record {
-  none = λ e c u l j. absurd (omega arith);
-  some = λ ne. absurd (ne z);
-  least = λ c u l j ne. absurd (omega arith);
-}
-
 pub least_more : (ends : Ends) (lengths : List ℕ) (i v u n r : ℕ) → IsLeastBefore ends lengths i v n
     → JoinsAt ends i v u → IsLesser n (get_or lengths i 0) r → IsLeastBefore ends lengths (i + 1) v r
 least_more ends lengths i v u n r h joins lesser = record {

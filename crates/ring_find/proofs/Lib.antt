@@ -1,7 +1,6 @@
 pub mod Walks
 pub mod Cycles
 pub mod Searches
-pub mod Tables
 pub mod Visits
 pub mod Labels
 pub mod Leasts

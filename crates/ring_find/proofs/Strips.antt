@@ -6,8 +6,8 @@ use Rattle.std.proofs.lemmas.Option.{slice_get_within}
 use Rattle.std.proofs.lemmas.List.{length-set, length-replicate, length-take, get_or-take, get_or_default, take_more, take_all, get_or-set_same, get_or-set_other, get_or-replicate}
 use Rattle.std.proofs.lemmas.List.Elements.{Contains-get_or, Contains-push, Contains-push_cases, Contains-append_left}
 use Rattle.chem_core.specs.Graph.{Ends, JoinsAt, IsRingBond}
-use Rattle.ring_find.specs.declared.graph.Step.{Step}
-use Rattle.ring_find.specs.Network.{AreStepsFrom}
+use Rattle.chem_core.specs.declared.adjacency.Step.{Step}
+use Rattle.chem_core.specs.Steps.{AreStepsFrom}
 use Rattle.ring_find.specs.BondRings.{KeepsRings}
 use Rattle.ring_find.specs.Strip.{IsOnly, IsOnlyKept, IsDeadEnd}
 use Rattle.ring_find.proofs.Cycles.{two_ring_bonds, joins_one}

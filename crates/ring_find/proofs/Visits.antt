@@ -1,19 +1,20 @@
 -- The steps of one atom taken one after another, and what a search for the ring of a bond says in the end.
-use Rattle.std.proofs.Common.{ℕ, ◌+◌, ◌<◌, ◌≤◌, ◌≡◌, ◌≢◌, ◌⊎◌, inl, inr, Bool, true, false, Some, List, [], ◌∷◌, ◌++◌, length, get_or, set, replicate, ap, subst, ◌∙◌, arith}
+use Rattle.std.proofs.Common.{ℕ, ◌+◌, ◌<◌, ◌≤◌, ◌≡◌, ◌≢◌, ◌⊎◌, inl, inr, Bool, true, false, Some, List, [], ◌∷◌, ◌++◌, length, get_or, set, replicate, ap, ◌∙◌, arith}
 use Rattle.std.specs.List.{slice_get}
 use Rattle.std.proofs.lemmas.Bool.{cases_lt}
-use Rattle.std.proofs.lemmas.Option.{slice_get_within, slice_get-get_or, get_or_from_slice_get}
+use Rattle.std.proofs.lemmas.Option.{slice_get-get_or}
 use Rattle.std.proofs.lemmas.List.{get_or_append_left, get_or_push, length_push, get_or-set_same, get_or-set_other, get_or_past, get_or_default}
 use Rattle.chem_core.specs.Graph.{Ends, JoinsAt, IsSimpleGraph}
-use Rattle.ring_find.specs.declared.graph.Step.{Step}
+use Rattle.chem_core.specs.declared.adjacency.Step.{Step}
+use Rattle.chem_core.specs.Steps.{AreStepsFrom}
+use Rattle.chem_core.proofs.Steps.{step_joins, step_within}
 use Rattle.ring_find.specs.Walk.{StepBut}
-use Rattle.ring_find.specs.Network.{AreStepsFrom}
 use Rattle.ring_find.specs.Search.{IsSearch, IsRingSearch, mark_at}
 use Rattle.ring_find.specs.BondRings.{KeepsRings, IsSmallestThrough}
 use Rattle.ring_find.proofs.Cycles.{smallest_from_mark}
 use Rattle.ring_find.proofs.Searches.{search_start, search_push, search_next, search_done}
 
--- ---- ends and steps in range
+-- ---- ends in range
 
 pub ends_at : (n : ℕ) (ends : Ends) (b : ℕ) → IsSimpleGraph n ends → b < length ends → ((get_or ends b (0, 0)).0 < n)
     × ((get_or ends b (0, 0)).1 < n) × ((get_or ends b (0, 0)).0 ≢ (get_or ends b (0, 0)).1)
@@ -21,33 +22,6 @@ pub ends_at : (n : ℕ) (ends : Ends) (b : ℕ) → IsSimpleGraph n ends → b <
 ends_at n ends b graph h =
     let range = graph.in_range b (0, 0) h in
     (range.0, range.1, graph.distinct b (0, 0) h, slice_get-get_or ends b (0, 0) h)
-
-pub joined_within : (n : ℕ) (ends : Ends) (b x y : ℕ) → IsSimpleGraph n ends → JoinsAt ends b x y → (b < length ends)
-    × (y < n)
-joined_within n ends b x y graph j =
-    elim j [
-      | inl q ↦
-          let within = slice_get_within ends b _ q in
-          let range = graph.in_range b (0, 0) within in
-          let is : get_or ends b (0, 0) ≡ (x, y) = get_or_from_slice_get ends b (x, y) (0, 0) q in
-          (within, subst (λ e. e.1 < n) is range.1)
-      | inr q ↦
-          let within = slice_get_within ends b _ q in
-          let range = graph.in_range b (0, 0) within in
-          let is : get_or ends b (0, 0) ≡ (y, x) = get_or_from_slice_get ends b (y, x) (0, 0) q in
-          (within, subst (λ e. e.0 < n) is range.0)
-    ]
-
--- the k-th step of an atom
-pub step_at : (ends : Ends) (a : ℕ) (steps : List Step) (k : ℕ) (d : Step) → AreStepsFrom ends a steps
-    → k < length steps → JoinsAt ends (get_or steps k d).bond a (get_or steps k d).to
-step_at ends a steps k d h l =
-    h.joins (get_or steps k d) (k, l, get_or_default steps k (get_or steps k d) d l)
-
-pub step_within : (n : ℕ) (ends : Ends) (a : ℕ) (steps : List Step) (k : ℕ) (d : Step) → IsSimpleGraph n ends
-    → AreStepsFrom ends a steps → k < length steps → ((get_or steps k d).bond < length ends)
-    × ((get_or steps k d).to < n)
-step_within n ends a steps k d graph h l = joined_within n ends _ a _ graph (step_at ends a steps k d h l)
 
 -- ---- the queue in range
 
@@ -90,7 +64,7 @@ pub visit_push : (ends : Ends) (kept : List Bool) (b atoms next at new : ℕ) (s
     ∷ []) (k + 1)
 visit_push ends kept b atoms next at new steps marks queue k d graph from h l other usable fresh =
     let w : ℕ = (get_or steps k d).to in
-    let joins = step_at ends at steps k d from l in
+    let joins = step_joins ends at steps k d from l in
     let within : w < atoms = (step_within atoms ends at steps k d graph from l).1 in
     let there : w < length marks = omega (arith, h.search.size) in
     let step : StepBut ends kept b (get_or queue next 0) w = rw (h.here) (

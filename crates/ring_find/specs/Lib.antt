@@ -1,7 +1,6 @@
 pub mod Walk
 pub mod BondRings
 pub mod Search
-pub mod Network
 pub mod Bridges
 pub mod Least
 pub mod Strip

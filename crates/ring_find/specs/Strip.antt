@@ -1,7 +1,7 @@
 -- Atoms at which one bond alone is kept, or one beside another. For private clauses alone.
 use Rattle.std.specs.Prelude.{◌≡◌, ◌==◌, ◌&&◌, not, ℕ, Bool, true, false, List, slice_index_or, Contains}
 use Rattle.chem_core.specs.Graph.{Ends, JoinsAt}
-use Rattle.ring_find.specs.declared.graph.Step.{Step}
+use Rattle.chem_core.specs.declared.adjacency.Step.{Step}
 
 -- the step is by a bond that counts, and no step by another bond is
 abbrev pub IsOnly : List Step → (ℕ → Bool) → Step → Type 0

@@ -8,8 +8,8 @@ ghost use Rattle.chem_core.specs.Graph.{IsSimpleGraph};
 ghost use Rattle.ring_find.specs.BondRings.{KeepsRings};
 ghost use Rattle.ring_find.specs.Bridges.{AreForest, AreTaken};
 
-use crate::graph::Graph;
 use bumpalo::Bump;
+use chem_core::Adjacency;
 use std::alloc::AllocError;
 
 // In so few atoms a search over the bonds between rings costs no more than to find these.
@@ -38,7 +38,11 @@ struct Seen {
 }
 
 /// Drops bonds that are kept and lie between rings. Each ring bond stays.
-pub fn drop_bridges(arena: &Bump, graph: &Graph<'_>, kept: &mut [bool]) -> Result<(), AllocError>
+pub fn drop_bridges(
+    arena: &Bump,
+    graph: &Adjacency<'_>,
+    kept: &mut [bool],
+) -> Result<(), AllocError>
     requires { KeepsRings graph.now.ends kept.old }
     ensures { OnOk result (KeepsRings graph.now.ends kept.new) }
 {
@@ -115,7 +119,7 @@ fn higher(one: u16, other: u16) -> Option<u16>
 }
 
 // A label for each atom: the number of the first atom that it hangs together with by rings.
-fn labels<'a>(arena: &'a Bump, graph: &Graph<'_>) -> Result<Vec<u16, &'a Bump>, AllocError>
+fn labels<'a>(arena: &'a Bump, graph: &Adjacency<'_>) -> Result<Vec<u16, &'a Bump>, AllocError>
     ensures { IfOk result (λ labels. length labels.items ≡ graph.now.atoms) }
 {
     let unseen = Seen {
@@ -138,7 +142,7 @@ fn labels<'a>(arena: &'a Bump, graph: &Graph<'_>) -> Result<Vec<u16, &'a Bump>, 
 
 // Walks to all atoms.
 fn walk(
-    graph: &Graph<'_>,
+    graph: &Adjacency<'_>,
     visits: &mut [Seen],
     order: &mut Vec<u16, &Bump>,
     ways: &mut Vec<Way, &Bump>,
@@ -153,7 +157,7 @@ fn walk(
 
 // Walks to all atoms that can be reached from the first and that the walk has not come to.
 fn walk_from(
-    graph: &Graph<'_>,
+    graph: &Adjacency<'_>,
     first: u16,
     visits: &mut [Seen],
     order: &mut Vec<u16, &Bump>,
@@ -179,7 +183,7 @@ fn walk_from(
 
 // Comes to an atom for the first time, and sees the ways from there.
 fn visit(
-    graph: &Graph<'_>,
+    graph: &Adjacency<'_>,
     way: Way,
     visits: &mut [Seen],
     order: &mut Vec<u16, &Bump>,
@@ -209,7 +213,7 @@ fn visit(
 }
 
 // Finds the lows, those of later atoms first.
-fn find_lows(graph: &Graph<'_>, order: &[u16], visits: &mut [Seen])
+fn find_lows(graph: &Adjacency<'_>, order: &[u16], visits: &mut [Seen])
     requires { length visits.old ≡ graph.now.atoms }
 {
     for atom in order.iter().rev() {
@@ -221,7 +225,7 @@ fn find_lows(graph: &Graph<'_>, order: &[u16], visits: &mut [Seen])
 }
 
 // An atom's low number. Those of the atoms reached from it must be known.
-fn low_of(graph: &Graph<'_>, atom: u16, visits: &[Seen]) -> u16
+fn low_of(graph: &Adjacency<'_>, atom: u16, visits: &[Seen]) -> u16
     requires { length visits.now ≡ graph.now.atoms }
 {
     let place = usize::from(atom);

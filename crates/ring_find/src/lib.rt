@@ -7,7 +7,6 @@
 #![tactic(auto)]
 
 mod bridges;
-mod graph;
 mod ring_facts;
 mod search;
 mod smallest;
@@ -19,12 +18,11 @@ ghost use Rattle.chem_core.specs.Sound.{IsSound, sketch_ends};
 ghost use Rattle.chem_core.specs.RingFacts.{AreRingBonds, AreSmallestRings};
 
 use crate::bridges::drop_bridges;
-use crate::graph::Graph;
 use crate::search::ring_lengths;
 use crate::smallest::smallest_rings;
 use crate::strip::strip_dead_ends;
 use bumpalo::Bump;
-use chem_core::Sketch;
+use chem_core::{Adjacency, Sketch};
 pub use ring_facts::Rings;
 use std::alloc::{AllocError, Global};
 
@@ -40,22 +38,20 @@ pub fn rings(alloc: Global, sketch: &Sketch) -> Result<Rings, AllocError>
         r.atom_small.items) }
 {
     let arena = Bump::new(alloc);
-    rings_in(alloc, &arena, sketch)
+    let graph = Adjacency::of(&arena, sketch)?;
+    rings_in(alloc, &arena, &graph)
 }
 
-/// The same, with working memory from an arena, for one sketch after another.
-pub fn rings_in(alloc: Global, arena: &Bump, sketch: &Sketch) -> Result<Rings, AllocError>
-    requires { IsSound sketch.now }
-    ensures bonds { IfOk result (λ r. AreRingBonds (sketch_ends sketch.now) r.bond_in_ring.items) }
-    ensures atoms { IfOk result (λ r. AreSmallestRings (length sketch.now.atoms) (sketch_ends sketch.now)
-        r.atom_small.items) }
+/// The same of an adjacency that is at hand, with working memory from an arena.
+pub fn rings_in(alloc: Global, arena: &Bump, graph: &Adjacency<'_>) -> Result<Rings, AllocError>
+    ensures bonds { IfOk result (λ r. AreRingBonds graph.now.ends r.bond_in_ring.items) }
+    ensures atoms { IfOk result (λ r. AreSmallestRings graph.now.atoms graph.now.ends r.atom_small.items) }
 {
-    let graph = Graph::of(arena, sketch)?;
-    let mut kept = strip_dead_ends(arena, &graph)?;
-    drop_bridges(arena, &graph, &mut kept)?;
-    let lengths = ring_lengths(arena, &graph, &kept)?;
+    let mut kept = strip_dead_ends(arena, graph)?;
+    drop_bridges(arena, graph, &mut kept)?;
+    let lengths = ring_lengths(arena, graph, &kept)?;
     let bond_in_ring = nonzero(alloc, &lengths)?;
-    let atom_small = smallest_rings(alloc, &graph, &lengths)?;
+    let atom_small = smallest_rings(alloc, graph, &lengths)?;
     Ok(Rings {
         bond_in_ring,
         atom_small,

@@ -1,20 +1,20 @@
 //! The smallest ring through each bond, by a breadth-first search from one of its ends to the other. Of two bonds at an
 //! atom where no third one is kept, both are on the same rings, so that one search serves a chain of them.
 ghost use Rattle.std.specs.Prelude.{◌≡◌, ◌≢◌, ◌≤◌, ◌<◌, ◌+◌, ℕ, length, replicate, slice_index, slice_get, All, Contains, Some, IfSome, IfOk, OnOk};
+ghost use Rattle.chem_core.specs.declared.adjacency.Step.{Step};
 ghost use Rattle.chem_core.specs.declared.limits.TheConstants.{MOST_ATOMS};
 ghost use Rattle.ring_find.specs.BondRings.{KeepsRings, AreBondRings, IsSmallestThrough};
 ghost use Rattle.ring_find.specs.Search.{IsRingSearch};
 ghost use Rattle.ring_find.specs.Strip.{IsOnlyBeside, is_beside};
-ghost use Rattle.ring_find.specs.declared.graph.Step.{Step};
 
-use crate::graph::{Graph, Step};
 use bumpalo::Bump;
+use chem_core::{Adjacency, Step};
 use std::alloc::AllocError;
 
 /// For each bond the length of the smallest ring through it, 0 where there is none. Only kept bonds are walked.
 pub fn ring_lengths<'a>(
     arena: &'a Bump,
-    graph: &Graph<'_>,
+    graph: &Adjacency<'_>,
     kept: &[bool],
 ) -> Result<Vec<u16, &'a Bump>, AllocError>
     requires { KeepsRings graph.now.ends kept.now }
@@ -34,7 +34,7 @@ pub fn ring_lengths<'a>(
 // The length of the smallest ring through a bond, 0 where there is none. The lengths are those of the bonds before it.
 // No atom is marked, before and after.
 fn ring_length(
-    graph: &Graph<'_>,
+    graph: &Adjacency<'_>,
     kept: &[bool],
     lengths: &[u16],
     bond: u16,
@@ -70,7 +70,7 @@ fn ring_length(
 }
 
 // The length of the smallest ring through a bond, where it is that of a bond before.
-fn known_length(graph: &Graph<'_>, kept: &[bool], lengths: &[u16], bond: u16) -> Option<u16>
+fn known_length(graph: &Adjacency<'_>, kept: &[bool], lengths: &[u16], bond: u16) -> Option<u16>
     requires kept { KeepsRings graph.now.ends kept.now }
     requires bond { bond < length graph.now.ends }
     requires before { (b : ℕ) → b < length lengths.now
@@ -123,7 +123,7 @@ fn is_beside(kept: &[bool], bond: u16, other: u16) -> bool
 // Marks the neighbours of the next atom of the queue that are not marked yet, and puts them at the end of the queue.
 // A mark is one more than the number of steps from the first atom.
 fn visit(
-    graph: &Graph<'_>,
+    graph: &Adjacency<'_>,
     kept: &[bool],
     bond: u16,
     next: usize,

@@ -4,13 +4,13 @@ ghost use Rattle.chem_core.specs.RingFacts.{AreSmallestRings};
 ghost use Rattle.ring_find.specs.BondRings.{AreBondRings};
 ghost use Rattle.ring_find.specs.Least.{IsLesser};
 
-use crate::graph::Graph;
+use chem_core::Adjacency;
 use std::alloc::{AllocError, Global};
 
 /// For each atom the length of its smallest ring, the least of its bonds' lengths; 0 where it is in none.
 pub fn smallest_rings(
     alloc: Global,
-    graph: &Graph<'_>,
+    graph: &Adjacency<'_>,
     lengths: &[u16],
 ) -> Result<Vec<u16>, AllocError>
     requires { AreBondRings graph.now.ends lengths.now }

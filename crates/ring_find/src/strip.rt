@@ -1,17 +1,17 @@
 //! Bonds that lead to dead ends are stripped, one after another, since no ring goes through them.
 ghost use Rattle.std.specs.Prelude.{◌≡◌, ◌≢◌, ◌<◌, ◌+◌, ℕ, length, All, AllPairs, IfOk, MatchOption};
+ghost use Rattle.chem_core.specs.declared.adjacency.Step.{Step};
 ghost use Rattle.ring_find.specs.BondRings.{KeepsRings};
 ghost use Rattle.ring_find.specs.Strip.{IsOnlyKept, IsDeadEnd};
-ghost use Rattle.ring_find.specs.declared.graph.Step.{Step};
 
-use crate::graph::{Graph, Step};
 use bumpalo::Bump;
+use chem_core::{Adjacency, Step};
 use std::alloc::AllocError;
 
 /// For each bond whether it is kept: each ring bond is, and no atom is left as a dead end.
 pub fn strip_dead_ends<'a>(
     arena: &'a Bump,
-    graph: &Graph<'_>,
+    graph: &Adjacency<'_>,
 ) -> Result<Vec<bool, &'a Bump>, AllocError>
     ensures rings { IfOk result (λ kept. KeepsRings graph.now.ends kept.items) }
     ensures ends { IfOk result (λ kept. (v : ℕ) → IsDeadEnd graph.now.ends kept.items v → ⊥) }
@@ -24,7 +24,7 @@ pub fn strip_dead_ends<'a>(
 }
 
 // Walks from a dead end inwards, stripping each bond on the way, as long as no other bond is kept.
-fn strip_from(graph: &Graph<'_>, kept: &mut [bool], atom: u16)
+fn strip_from(graph: &Adjacency<'_>, kept: &mut [bool], atom: u16)
     requires atom { atom < graph.now.atoms }
     requires rings { KeepsRings graph.now.ends kept.old }
     requires ends { (v : ℕ) → v < atom → IsDeadEnd graph.now.ends kept.old v → ⊥ }

@@ -1,8 +1,10 @@
-use Rattle.std.proofs.Common.{take}
-use Rattle.chem_core.specs.Component.{AreComponents}
-use Rattle.chem_core.specs.Molecule.{bond_ends}
+use Rattle.std.proofs.Common.{◌<◌, ℕ, []}
+use Rattle.mol_finish.specs.Naming.{IsNamed, IsNaming}
 use Rattle.mol_finish.proofs.components.components.Given as goal
 
--- the components by the bonds so far
-abbrev pub invariant-loop-place : goal.invariant-loop-place
-invariant-loop-place l = AreComponents l.atoms (take l.place (bond_ends l.bonds)) l.components.items
+abbrev pub invariant-loop-atom : goal.invariant-loop-atom
+invariant-loop-atom l =
+    record {
+      naming : IsNaming l.adjacency.atoms l.adjacency.ends l.components.items [] 0;
+      below : (a : ℕ) → a < l.atom → IsNamed l.components.items a;
+    }

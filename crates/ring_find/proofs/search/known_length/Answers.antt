@@ -2,7 +2,7 @@ use Rattle.std.proofs.Common.{inl, inr, refl, arith}
 use Rattle.std.proofs.lemmas.Option.{slice_get-get_or}
 use Rattle.std.specs.Prelude.{Some}
 use Rattle.ring_find.proofs.Beside.{found_smallest}
-use Rattle.ring_find.proofs.Visits.{step_within}
+use Rattle.chem_core.proofs.Steps.{step_within}
 use Rattle.ring_find.proofs.search.known_length.Goals as goal
 
 pub length_beside-requires : goal.length_beside-requires

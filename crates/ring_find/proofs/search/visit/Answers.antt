@@ -1,6 +1,7 @@
 use Rattle.std.proofs.Common.{◌≡◌, ◌<◌, ◌≤◌, ◌+◌, length, slice_index, arith}
 use Rattle.std.proofs.lemmas.List.{get_or_read}
-use Rattle.ring_find.proofs.Visits.{queued_within, mark_low, step_within, IsVisit, visit_push, visit_done}
+use Rattle.chem_core.proofs.Steps.{step_within}
+use Rattle.ring_find.proofs.Visits.{queued_within, mark_low, IsVisit, visit_push, visit_done}
 use Rattle.ring_find.proofs.search.visit.Goals as goal
 
 pub bounds-marks-from : goal.bounds-marks-from

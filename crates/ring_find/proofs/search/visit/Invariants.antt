@@ -1,5 +1,5 @@
 use Rattle.std.proofs.Common.{◌≡◌, ◌≢◌, ◌≤◌, ◌<◌, ◌+◌, ℕ, true, false, length, slice_index, slice_index_or}
-use Rattle.ring_find.specs.declared.graph.Step.{Step}
+use Rattle.chem_core.specs.declared.adjacency.Step.{Step}
 use Rattle.ring_find.specs.Search.{IsRingSearch}
 use Rattle.ring_find.proofs.search.visit.Given as goal
 

@@ -1,7 +1,6 @@
 use Rattle.std.proofs.Common.{◌≡◌, length, ap, arith}
 use Rattle.std.proofs.lemmas.List.{take_at}
-use Rattle.ring_find.proofs.Cycles.{joins_back}
-use Rattle.ring_find.proofs.Visits.{joined_within}
+use Rattle.chem_core.proofs.Neighbours.{joins_back, joined_within}
 use Rattle.ring_find.proofs.strip.strip_dead_ends.Goals as goal
 
 pub strip_from-requires-clause-ends : goal.strip_from-requires-clause-ends

@@ -1,7 +1,8 @@
 use Rattle.std.proofs.Common.{inl, inr, subst, arith}
 use Rattle.std.proofs.lemmas.Bool.{cases_eq}
 use Rattle.ring_find.specs.Strip.{IsDeadEnd}
-use Rattle.ring_find.proofs.Visits.{step_within, joined_within}
+use Rattle.chem_core.proofs.Neighbours.{joined_within}
+use Rattle.chem_core.proofs.Steps.{step_within}
 use Rattle.ring_find.proofs.Strips.{keeps_more, ends_more, ends_done}
 use Rattle.ring_find.proofs.strip.strip_from.Goals as goal
 

@@ -1,5 +1,5 @@
 use Rattle.std.proofs.Common.{◌≡◌, [], map, replicate}
-use Rattle.chem_core.proofs.mol.empty_lists.Given as goal
+use Rattle.chem_core.proofs.adjacency.empty_lists.Given as goal
 
 abbrev pub invariant-loop : goal.invariant-loop
 invariant-loop l = map (λ v. v.items) l.lists.items ≡ replicate l.counter []
