@@ -39,6 +39,30 @@ const MEM: &[&str] = &["mem"];
 // A store of one commit.
 const ONE_COMMIT: &[u8] = b"ZCHEMDB1Z\x09\0\0\0\x01\x01\0\0\0\x01CCO\0";
 
+// What a script is about, words, and the script with its replies, as `check` has them.
+type Script = (&'static str, &'static [&'static str], &'static str);
+
+// The scripts of all files.
+const SCRIPTS: &[&[Script]] = &[
+    cursors::SCRIPTS,
+    patterns::SCRIPTS,
+    structures::SCRIPTS,
+    refused::SCRIPTS,
+    lookups::SCRIPTS,
+    sd::SCRIPTS,
+    watches::SCRIPTS,
+    drills::SCRIPTS,
+    compact::SCRIPTS,
+];
+
+#[test]
+fn scripts(rt: HostRuntime) -> Result<(), Fail> {
+    for (about, words, rows) in SCRIPTS.iter().copied().flatten() {
+        check(&rt, rt.alloc(), about, words, rows)?;
+    }
+    Ok(())
+}
+
 // What a call left of its one end.
 type Answer = Outcome<MemDisk, MemSource, MemSink>;
 
@@ -189,6 +213,7 @@ fn replies_are<R: Abort + Threads + Wait + Sync>(
 fn check<R: Abort + Threads + Wait + Sync>(
     rt: &R,
     alloc: Global,
+    about: &str,
     words: &[&str],
     rows: &str,
 ) -> Result<(), Fail> {
@@ -205,13 +230,8 @@ fn check<R: Abort + Threads + Wait + Sync>(
             assert!(rt; row.starts_with("# "), "at {row:?}");
         }
     }
-    answers(
-        rt,
-        alloc,
-        words,
-        script.as_bytes(),
-        PLAIN,
-        0,
-        replies.as_bytes(),
-    )
+    let answer = call(rt, alloc, words, script.as_bytes(), PLAIN)?;
+    assert_eq!(rt; put_by(&answer), replies.as_bytes(), "{about}");
+    assert_eq!(rt; answer.status, 0, "{about}");
+    Ok(())
 }

@@ -5,6 +5,7 @@ ghost use Rattle.chem_core.specs.Molecule.{IsAtom};
 use chem_core::{Atom, Mol};
 use std::alloc::{AllocError, Global};
 
+mod hydrogens;
 mod molfiles;
 mod parts;
 mod patterns;

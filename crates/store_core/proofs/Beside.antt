@@ -10,7 +10,7 @@ use Rattle.store_machine.specs.declared.machine.State.{State}
 use Rattle.store_core.specs.Beside.{CallsServe, IsOfMemory, repinned}
 use Rattle.store_core.specs.Stored.{StandsFor, alone, served}
 use Rattle.store_core.proofs.OneCall.{at-alone, serves}
-use Rattle.store_core.proofs.Only.{step-of}
+use Rattle.store_core.proofs.OneStep.{step-of}
 use Rattle.store_core.proofs.Rows.{sound-after}
 
 -- a step from the part alone becomes one from the state, by which its pins alone change

@@ -16,11 +16,11 @@ mod Indexed
 mod Limits
 mod Listed
 mod OneCall
-mod Only
+pub mod OneStep
 mod Owners
 mod PruneRow
 mod Rows
-mod Screened
+pub mod Screened
 mod Sees
 mod Stepped
 mod Taken

@@ -3,7 +3,6 @@ pub mod Beside
 pub mod Calls
 pub mod Copied
 pub mod Kept
-pub mod Only
 pub mod Prepared
 pub mod Records
 pub mod Replies

@@ -20,6 +20,3 @@ pub use record_versions::Steps;
 pub use service::Service;
 pub use store::{MOST_COMMITS, Store};
 pub use words::{CallFault, Change, CommitFault, Compact, CompactFault, IdState, Look, Stats};
-
-#[cfg(test)]
-mod tests;

@@ -6,6 +6,7 @@ use std::test::Fail;
 use store_core::{Change, Record, Service, Store};
 
 mod chains;
+mod kept;
 mod lookups;
 mod pins;
 mod records;

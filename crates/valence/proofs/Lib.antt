@@ -4,5 +4,4 @@ pub mod Flags
 pub mod Renumbering
 pub mod Kept
 pub mod Staying
-pub mod Examples
 pub mod Law

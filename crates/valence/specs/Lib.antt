@@ -1,4 +1,3 @@
 pub mod Valence
 pub mod Filled
 pub mod Suppressed
-pub mod Small

@@ -10,6 +10,3 @@ mod table;
 pub use fill::fill_hydrogens;
 pub use laws::{order_stays, sound_stays, twice_is_once};
 pub use suppression::suppress;
-
-#[cfg(test)]
-mod tests;

@@ -4,23 +4,25 @@ ghost use Rattle.std.specs.Prelude.{◌<◌};
 use super::{PLAIN, Ways, answers, call, put_by};
 use std::test::Fail;
 
+// How many structures, and the summary.
+const SUMMARIES: &[(&str, &str)] = &[
+    (
+        "0",
+        "bulk seed 1 count 0\nversion 0\nsearch C=O tried 0 hits 0\nsearch c1ccccc1 tried 0 hits 0\n\
+            search [N;H1] tried 0 hits 0\nsearch [$(C(=O)N)] tried 0 hits 0\nsearch F tried 0 hits 0\n",
+    ),
+    // COC(F)c1ccc(cc1) and CC(=O)NN
+    (
+        "2",
+        "bulk seed 1 count 2\nversion 2\nsearch C=O tried 1 hits 1\nsearch c1ccccc1 tried 1 hits 1\n\
+            search [N;H1] tried 1 hits 1\nsearch [$(C(=O)N)] tried 2 hits 1\nsearch F tried 1 hits 1\n",
+    ),
+];
+
 #[test]
 fn summaries(rt: HostRuntime) -> Result<(), Fail> {
     let alloc = rt.alloc();
-    let rows = [
-        (
-            "0",
-            "bulk seed 1 count 0\nversion 0\nsearch C=O tried 0 hits 0\nsearch c1ccccc1 tried 0 hits 0\n\
-            search [N;H1] tried 0 hits 0\nsearch [$(C(=O)N)] tried 0 hits 0\nsearch F tried 0 hits 0\n",
-        ),
-        // COC(F)c1ccc(cc1) and CC(=O)NN
-        (
-            "2",
-            "bulk seed 1 count 2\nversion 2\nsearch C=O tried 1 hits 1\nsearch c1ccccc1 tried 1 hits 1\n\
-            search [N;H1] tried 1 hits 1\nsearch [$(C(=O)N)] tried 2 hits 1\nsearch F tried 1 hits 1\n",
-        ),
-    ];
-    for (count, summary) in rows {
+    for &(count, summary) in SUMMARIES {
         // the source would fail, and is not read
         let ways = Ways {
             piece: 1,

@@ -1,16 +1,13 @@
 //! Commits, pins, pages and prunings.
 ghost use Rattle.std.specs.Prelude.{◌<◌};
 
-use super::{MEM, PLAIN, answers, check};
+use super::{MEM, PLAIN, Script, answers};
 use std::alloc::{AllocError, Global};
 use std::test::Fail;
 
-#[test]
-fn states_of_an_identifier(rt: HostRuntime) -> Result<(), Fail> {
-    let alloc = rt.alloc();
-    check(
-        &rt,
-        alloc,
+pub(super) const SCRIPTS: &[Script] = &[
+    (
+        "states of an identifier",
         MEM,
         "\
         > register 1 CC\n\
@@ -40,10 +37,9 @@ fn states_of_an_identifier(rt: HostRuntime) -> Result<(), Fail> {
         > revise 1 C(\n\
         < refused smiles syntax\n\
         ",
-    )?;
-    check(
-        &rt,
-        alloc,
+    ),
+    (
+        "a molfile that is revised",
         MEM,
         "\
         > register-mol 7\n\
@@ -83,10 +79,9 @@ fn states_of_an_identifier(rt: HostRuntime) -> Result<(), Fail> {
         > search O\n\
         < end at 3 tried 0 hits 0\n\
         ",
-    )?;
-    check(
-        &rt,
-        alloc,
+    ),
+    (
+        "one commit is allowed",
         &["mem", "--commits", "1"],
         "\
         > register 1 C\n\
@@ -102,15 +97,9 @@ fn states_of_an_identifier(rt: HostRuntime) -> Result<(), Fail> {
         > withdraw 1\n\
         < refused full\n\
         ",
-    )
-}
-
-#[test]
-fn a_cursor_holds_its_version(rt: HostRuntime) -> Result<(), Fail> {
-    let alloc = rt.alloc();
-    check(
-        &rt,
-        alloc,
+    ),
+    (
+        "a cursor holds its version",
         MEM,
         "\
         > register 1 CO\n\
@@ -137,11 +126,9 @@ fn a_cursor_holds_its_version(rt: HostRuntime) -> Result<(), Fail> {
         > stats\n\
         < stats version 2 live 1 withdrawn 0 kept 1 pins 0\n\
         ",
-    )?;
-    // what is withdrawn and what is new does not come into an open cursor, page by page
-    check(
-        &rt,
-        alloc,
+    ),
+    (
+        "what is withdrawn and what is new does not come into an open cursor, page by page",
         &["mem", "--page=1", "--workers=3"],
         "\
         > register 3 CO\n\
@@ -181,8 +168,8 @@ fn a_cursor_holds_its_version(rt: HostRuntime) -> Result<(), Fail> {
         > prune\n\
         < pruned 1\n\
         ",
-    )
-}
+    ),
+];
 
 // A cursor at version 1 while its identifier is revised so often, each time with a pruning.
 fn held_long(alloc: Global, times: u32) -> Result<(String, String), AllocError> {

@@ -53,34 +53,36 @@ fn a_store_is_made_and_used_and_used_again(rt: HostRuntime) -> Result<(), Fail> 
     Ok(())
 }
 
+const COUNTS: &str = "stats version 0 live 0 withdrawn 0 kept 0 pins 0\n";
+
+// the bytes, the status, the place of damage, and what `stats` is answered
+const BYTES: &[(&[u8], u8, u64, &str)] = &[
+    (b"ZCHEMDB1\0", 0, 0, COUNTS),
+    (b"", 6, 0, ""),
+    (b"ZCHEMDB", 6, 0, ""),
+    (b"zCHEMDB1\0", 6, 0, ""),
+    (b"ZCHEMDB2\0", 6, 0, ""),
+    (b"ZCHEMDB1", 7, 8, ""),
+    (b"ZCHEMDB1Z\x01\0\0\0\x04\0", 7, 8, ""),
+    (b"ZCHEMDB1Z\x09\0\0\0\x01\x01\0\0\0\x01CCO", 7, 22, ""),
+    (
+        b"ZCHEMDB1Z\x07\0\0\0\x01\x01\0\0\0\x01C\0more",
+        0,
+        0,
+        "stats version 1 live 1 withdrawn 0 kept 1 pins 0\n",
+    ),
+    (
+        b"ZCHEMDB1Z\x07\0\0\0\x01\x01\0\0\0\x01CZ\x07\0\0\0\x01\x01\0\0\0\x01C\0",
+        7,
+        20,
+        "",
+    ),
+];
+
 #[test]
 fn bytes_that_are_run(rt: HostRuntime) -> Result<(), Fail> {
     let alloc = rt.alloc();
-    let counts = "stats version 0 live 0 withdrawn 0 kept 0 pins 0\n";
-    // the bytes, the status, the place of damage, and what `stats` is answered
-    let rows: [(&[u8], u8, u64, &str); 10] = [
-        (b"ZCHEMDB1\0", 0, 0, counts),
-        (b"", 6, 0, ""),
-        (b"ZCHEMDB", 6, 0, ""),
-        (b"zCHEMDB1\0", 6, 0, ""),
-        (b"ZCHEMDB2\0", 6, 0, ""),
-        (b"ZCHEMDB1", 7, 8, ""),
-        (b"ZCHEMDB1Z\x01\0\0\0\x04\0", 7, 8, ""),
-        (b"ZCHEMDB1Z\x09\0\0\0\x01\x01\0\0\0\x01CCO", 7, 22, ""),
-        (
-            b"ZCHEMDB1Z\x07\0\0\0\x01\x01\0\0\0\x01C\0more",
-            0,
-            0,
-            "stats version 1 live 1 withdrawn 0 kept 1 pins 0\n",
-        ),
-        (
-            b"ZCHEMDB1Z\x07\0\0\0\x01\x01\0\0\0\x01CZ\x07\0\0\0\x01\x01\0\0\0\x01C\0",
-            7,
-            20,
-            "",
-        ),
-    ];
-    for (bytes, status, place, put) in rows {
+    for &(bytes, status, place, put) in BYTES {
         let answer = run(&rt, alloc, disk_of(alloc, bytes)?, "stats\n")?;
         assert_eq!(rt; answer.place, place, "at {bytes:?}");
         assert!(rt; has_left(&answer, status, put, bytes), "at {bytes:?}");
@@ -88,52 +90,53 @@ fn bytes_that_are_run(rt: HostRuntime) -> Result<(), Fail> {
     Ok(())
 }
 
+const ABSENT: &str = "refused absent\nstats version 0 live 0 withdrawn 0 kept 0 pins 0\n";
+
+const BY_ANOTHER_HAND: &[(&[u8], u8, u64, &str)] = &[
+    // a text that has no structure, and one with a line feed
+    (b"ZCHEMDB1Z\x09\0\0\0\x01\x01\0\0\0\x01CC(\0", 7, 8, ""),
+    (b"ZCHEMDB1Z\x09\0\0\0\x01\x01\0\0\0\x01C\nC\0", 7, 8, ""),
+    // the greatest length
+    (
+        b"ZCHEMDB1Z\xff\xff\xff\xff\x01\x01\0\0\0\x01CCO\0",
+        7,
+        8,
+        "",
+    ),
+    // identifiers of 0 and of 1,000,000,000, and the greatest
+    (b"ZCHEMDB1Z\x07\0\0\0\x01\0\0\0\0\x01C\0", 7, 8, ""),
+    (b"ZCHEMDB1Z\x07\0\0\0\x01\0\xca\x9a\x3b\x01C\0", 7, 8, ""),
+    (
+        b"ZCHEMDB1Z\x07\0\0\0\x01\xff\xc9\x9a\x3b\x01C\0",
+        0,
+        0,
+        "refused absent\nstats version 1 live 1 withdrawn 0 kept 1 pins 0\n",
+    ),
+    // a withdrawal with a text, one of what is ABSENT, and a registration of what was withdrawn
+    (b"ZCHEMDB1Z\x06\0\0\0\x03\x01\0\0\0\x01\0", 7, 8, ""),
+    (b"ZCHEMDB1Z\x05\0\0\0\x03\x01\0\0\0\0", 7, 8, ""),
+    (
+        b"ZCHEMDB1Z\x07\0\0\0\x01\x01\0\0\0\x01CZ\x05\0\0\0\x03\x01\0\0\0Z\x07\0\0\0\x01\x01\0\0\0\x01C\0",
+        7,
+        30,
+        "",
+    ),
+    // a record behind a closed gate
+    (b"ZCHEMDB1\0Z\x07\0\0\0\x01\x01\0\0\0\x01C\0", 0, 0, ABSENT),
+    // a molfile whose last line has no line feed is shown with one
+    (
+        b"ZCHEMDB1Z\x37\0\0\0\x01\x01\0\0\0\x02\n\n\n  1  0\n                               C\nM  END\0",
+        0,
+        0,
+        "record 1 version 1 molfile 6\n\n\n\n  1  0\n                               C\nM  END\n\
+            stats version 1 live 1 withdrawn 0 kept 1 pins 0\n",
+    ),
+];
+
 #[test]
 fn stores_by_another_hand(rt: HostRuntime) -> Result<(), Fail> {
     let alloc = rt.alloc();
-    // the bytes, the status, the place of damage, and what `show` and `stats` are answered
-    let absent = "refused absent\nstats version 0 live 0 withdrawn 0 kept 0 pins 0\n";
-    let rows: [(&[u8], u8, u64, &str); 11] = [
-        // a text that has no structure, and one with a line feed
-        (b"ZCHEMDB1Z\x09\0\0\0\x01\x01\0\0\0\x01CC(\0", 7, 8, ""),
-        (b"ZCHEMDB1Z\x09\0\0\0\x01\x01\0\0\0\x01C\nC\0", 7, 8, ""),
-        // the greatest length
-        (
-            b"ZCHEMDB1Z\xff\xff\xff\xff\x01\x01\0\0\0\x01CCO\0",
-            7,
-            8,
-            "",
-        ),
-        // identifiers of 0 and of 1,000,000,000, and the greatest
-        (b"ZCHEMDB1Z\x07\0\0\0\x01\0\0\0\0\x01C\0", 7, 8, ""),
-        (b"ZCHEMDB1Z\x07\0\0\0\x01\0\xca\x9a\x3b\x01C\0", 7, 8, ""),
-        (
-            b"ZCHEMDB1Z\x07\0\0\0\x01\xff\xc9\x9a\x3b\x01C\0",
-            0,
-            0,
-            "refused absent\nstats version 1 live 1 withdrawn 0 kept 1 pins 0\n",
-        ),
-        // a withdrawal with a text, one of what is absent, and a registration of what was withdrawn
-        (b"ZCHEMDB1Z\x06\0\0\0\x03\x01\0\0\0\x01\0", 7, 8, ""),
-        (b"ZCHEMDB1Z\x05\0\0\0\x03\x01\0\0\0\0", 7, 8, ""),
-        (
-            b"ZCHEMDB1Z\x07\0\0\0\x01\x01\0\0\0\x01CZ\x05\0\0\0\x03\x01\0\0\0Z\x07\0\0\0\x01\x01\0\0\0\x01C\0",
-            7,
-            30,
-            "",
-        ),
-        // a record behind a closed gate
-        (b"ZCHEMDB1\0Z\x07\0\0\0\x01\x01\0\0\0\x01C\0", 0, 0, absent),
-        // a molfile whose last line has no line feed is shown with one
-        (
-            b"ZCHEMDB1Z\x37\0\0\0\x01\x01\0\0\0\x02\n\n\n  1  0\n                               C\nM  END\0",
-            0,
-            0,
-            "record 1 version 1 molfile 6\n\n\n\n  1  0\n                               C\nM  END\n\
-            stats version 1 live 1 withdrawn 0 kept 1 pins 0\n",
-        ),
-    ];
-    for (bytes, status, place, put) in rows {
+    for &(bytes, status, place, put) in BY_ANOTHER_HAND {
         let answer = run(&rt, alloc, disk_of(alloc, bytes)?, "show 1\nstats\n")?;
         assert_eq!(rt; answer.place, place, "at {bytes:?}");
         assert!(rt; has_left(&answer, status, put, bytes), "at {bytes:?}");
@@ -204,6 +207,21 @@ fn each_call_of_the_disk_fails_in_turn(rt: HostRuntime) -> Result<(), Fail> {
     Ok(())
 }
 
+// the command, whether it makes the files, the script, the status, and what was put
+const COMMANDS: &[(&str, bool, &str, u8, &str)] = &[
+    ("run", false, "stats\n", 5u8, ""),
+    ("init", true, "", 0, ""),
+    ("run", false, "register 1 CCO\n", 0, "ok 1\n"),
+    (
+        "run",
+        false,
+        "show 1\n",
+        0,
+        "record 1 version 1 smiles CCO\n",
+    ),
+    ("init", true, "", 10, ""),
+];
+
 #[test]
 fn a_store_in_two_files(rt: HostRuntime) -> Result<(), Fail> {
     let alloc = rt.alloc();
@@ -211,21 +229,7 @@ fn a_store_in_two_files(rt: HostRuntime) -> Result<(), Fail> {
     let second = "chem_rows_test.store.2";
     let _ = fs::remove_file(&rt, path);
     let _ = fs::remove_file(&rt, second);
-    // the command, whether it makes the files, the script, the status, and what was put
-    let rows = [
-        ("run", false, "stats\n", 5u8, ""),
-        ("init", true, "", 0, ""),
-        ("run", false, "register 1 CCO\n", 0, "ok 1\n"),
-        (
-            "run",
-            false,
-            "show 1\n",
-            0,
-            "record 1 version 1 smiles CCO\n",
-        ),
-        ("init", true, "", 10, ""),
-    ];
-    for (command, create, script, status, put) in rows {
+    for &(command, create, script, status, put) in COMMANDS {
         let disks = (
             FileDisk::at(&rt, path, create),
             FileDisk::at(&rt, second, create),

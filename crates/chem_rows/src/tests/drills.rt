@@ -1,14 +1,10 @@
 //! Drills: sessions on a store in memory whose disks are stopped, failed and reopened.
 
-use super::{PLAIN, answers, check};
-use chem_shell::word_fault;
-use std::test::Fail;
+use super::Script;
 
-#[test]
-fn what_a_crash_leaves(rt: HostRuntime) -> Result<(), Fail> {
-    check(
-        &rt,
-        rt.alloc(),
+pub(super) const SCRIPTS: &[Script] = &[
+    (
+        "what a crash leaves",
         &["drill"],
         "\
         > 1 register 1 CCO\n\
@@ -49,11 +45,9 @@ fn what_a_crash_leaves(rt: HostRuntime) -> Result<(), Fail> {
         > 1 stats\n\
         < 1 stats version 3 live 2 withdrawn 0 kept 2 pins 0\n\
         ",
-    )?;
-    // a world has the plan's commits behind each reopening
-    check(
-        &rt,
-        rt.alloc(),
+    ),
+    (
+        "a world has the plan's commits behind each reopening",
         &["drill", "--commits", "1", "--page=1"],
         "\
         > 1 register 1 C\n\
@@ -63,14 +57,9 @@ fn what_a_crash_leaves(rt: HostRuntime) -> Result<(), Fail> {
         > 2 register 2 C\n\
         < 2 refused full\n\
         ",
-    )
-}
-
-#[test]
-fn lines_of_no_drill(rt: HostRuntime) -> Result<(), Fail> {
-    check(
-        &rt,
-        rt.alloc(),
+    ),
+    (
+        "lines of no drill",
         &["drill"],
         "\
         > stats\n\
@@ -92,31 +81,5 @@ fn lines_of_no_drill(rt: HostRuntime) -> Result<(), Fail> {
         > 1 data 7 NAME\n\
         < 1 refused data\n\
         ",
-    )
-}
-
-#[test]
-fn words_of_a_drill(rt: HostRuntime) -> Result<(), Fail> {
-    let alloc = rt.alloc();
-    let rows: [(&[&str], &str); 3] = [
-        (&["drill", "x"], "drill takes no word \"x\""),
-        (
-            &["drill", "--commits", "0"],
-            "--commits is a decimal from 1 to 16777215, not \"0\"",
-        ),
-        (
-            &["drill", "--page", "257"],
-            "--page is a decimal from 1 to 256, not \"257\"",
-        ),
-    ];
-    for (words, reason) in rows {
-        let fault = word_fault(alloc, words)?;
-        let text = match &fault {
-            Some(text) => text.as_str(),
-            None => "",
-        };
-        assert_eq!(rt; text, reason, "at {words:?}");
-        answers(&rt, alloc, words, b"1 stats\n", PLAIN, 2, b"")?;
-    }
-    Ok(())
-}
+    ),
+];

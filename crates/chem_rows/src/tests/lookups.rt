@@ -1,10 +1,8 @@
 //! Lookups: what is the same structure, and what is most similar.
-use super::{MEM, check, replies_are};
+use super::{MEM, Script, replies_are};
 use std::test::Fail;
 
-#[test]
-fn ethanol_written_in_two_ways_is_the_same(rt: HostRuntime) -> Result<(), Fail> {
-    let rows = "\
+const ETHANOL: &str = "\
         > register 1 OCC\n\
         < ok 1\n\
         > register 2 CCO\n\
@@ -25,29 +23,8 @@ fn ethanol_written_in_two_ways_is_the_same(rt: HostRuntime) -> Result<(), Fail> 
         > stats\n\
         < stats version 4 live 4 withdrawn 0 kept 4 pins 0\n\
         ";
-    check(&rt, rt.alloc(), MEM, rows)?;
-    check(&rt, rt.alloc(), &["mem", "--page", "1"], rows)
-}
 
-#[test]
-fn benzene_written_in_two_ways_is_the_same(rt: HostRuntime) -> Result<(), Fail> {
-    check(
-        &rt,
-        rt.alloc(),
-        MEM,
-        "\
-        > register 1 C1=CC=CC=C1\n\
-        < ok 1\n\
-        > same c1ccccc1\n\
-        < hit 1\n\
-        < end at 1 tried 1 hits 1\n\
-        ",
-    )
-}
-
-#[test]
-fn ethanol_is_more_similar_to_methanol_than_methane_is(rt: HostRuntime) -> Result<(), Fail> {
-    let rows = "\
+const METHANOL: &str = "\
         > register 1 CCO\n\
         < ok 1\n\
         > register 2 CO\n\
@@ -73,15 +50,33 @@ fn ethanol_is_more_similar_to_methanol_than_methane_is(rt: HostRuntime) -> Resul
         > stats\n\
         < stats version 4 live 4 withdrawn 0 kept 4 pins 0\n\
         ";
-    check(&rt, rt.alloc(), MEM, rows)?;
-    check(&rt, rt.alloc(), &["mem", "--page", "1"], rows)
-}
 
-#[test]
-fn nothing_is_the_same_or_similar_in_an_empty_store(rt: HostRuntime) -> Result<(), Fail> {
-    check(
-        &rt,
-        rt.alloc(),
+pub(super) const SCRIPTS: &[Script] = &[
+    ("ethanol written in two ways is the same", MEM, ETHANOL),
+    ("the same, page by page", &["mem", "--page", "1"], ETHANOL),
+    (
+        "benzene written in two ways is the same",
+        MEM,
+        "\
+        > register 1 C1=CC=CC=C1\n\
+        < ok 1\n\
+        > same c1ccccc1\n\
+        < hit 1\n\
+        < end at 1 tried 1 hits 1\n\
+        ",
+    ),
+    (
+        "ethanol is more similar to methanol than methane is",
+        MEM,
+        METHANOL,
+    ),
+    (
+        "the most similar, page by page",
+        &["mem", "--page", "1"],
+        METHANOL,
+    ),
+    (
+        "nothing is the same or similar in an empty store",
         MEM,
         "\
         > same C\n\
@@ -97,14 +92,9 @@ fn nothing_is_the_same_or_similar_in_an_empty_store(rt: HostRuntime) -> Result<(
         > similar 0 1 256 C\n\
         < end at 2 scored 0 hits 0\n\
         ",
-    )
-}
-
-#[test]
-fn lookups_are_refused_in_order(rt: HostRuntime) -> Result<(), Fail> {
-    check(
-        &rt,
-        rt.alloc(),
+    ),
+    (
+        "lookups are refused in order",
         &["mem", "--commits", "3"],
         "\
         > same\n\
@@ -142,16 +132,11 @@ fn lookups_are_refused_in_order(rt: HostRuntime) -> Result<(), Fail> {
         > stats\n\
         < stats version 3 live 1 withdrawn 1 kept 3 pins 0\n\
         ",
-    )
-}
-
-// What is the same is named by the least identifier, in the order of identifiers and not of registration, whatever the
-// format of its text.
-#[test]
-fn the_least_that_is_the_same_is_named(rt: HostRuntime) -> Result<(), Fail> {
-    check(
-        &rt,
-        rt.alloc(),
+    ),
+    // What is the same is named by the least identifier, in the order of identifiers and not of registration, whatever the
+    // format of its text.
+    (
+        "the least that is the same is named",
         MEM,
         "\
         > register 9 C\n\
@@ -179,15 +164,10 @@ fn the_least_that_is_the_same_is_named(rt: HostRuntime) -> Result<(), Fail> {
         < like 8 2 2\n\
         < end at 3 scored 3 hits 2\n\
         ",
-    )
-}
-
-// A cursor is where it was, and lists what its version has, whatever is looked up between its pages.
-#[test]
-fn no_cursor_is_moved_by_a_lookup(rt: HostRuntime) -> Result<(), Fail> {
-    check(
-        &rt,
-        rt.alloc(),
+    ),
+    // A cursor is where it was, and lists what its version has, whatever is looked up between its pages.
+    (
+        "no cursor is moved by a lookup",
         &["mem", "--page", "1"],
         "\
         > register 1 CO\n\
@@ -212,8 +192,8 @@ fn no_cursor_is_moved_by_a_lookup(rt: HostRuntime) -> Result<(), Fail> {
         < hit 2\n\
         < end at 2 tried 2 hits 2\n\
         ",
-    )
-}
+    ),
+];
 
 // A lookup takes a pin, and 64 are held.
 #[test]

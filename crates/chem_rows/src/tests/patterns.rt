@@ -1,15 +1,11 @@
 //! Patterns: what they find, what is tried, and what is refused.
 
-use super::{MEM, check};
+use super::{MEM, Script, check};
 use std::test::Fail;
 
-#[test]
-fn patterns_and_hits(rt: HostRuntime) -> Result<(), Fail> {
-    let alloc = rt.alloc();
-    // each identifier once, ascending, though the pattern embeds in many ways
-    check(
-        &rt,
-        alloc,
+pub(super) const SCRIPTS: &[Script] = &[
+    (
+        "each identifier once, ascending, though the pattern embeds in many ways",
         MEM,
         "\
         > register 999999999 ClCBr\n\
@@ -46,11 +42,9 @@ fn patterns_and_hits(rt: HostRuntime) -> Result<(), Fail> {
         > search CI\n\
         < end at 6 tried 0 hits 0\n\
         ",
-    )?;
-    // aromatic atoms and bonds; the bond that two aromatic rings share
-    check(
-        &rt,
-        alloc,
+    ),
+    (
+        "aromatic atoms and bonds",
         MEM,
         "\
         > register 1 c1ccccc1C\n\
@@ -75,10 +69,9 @@ fn patterns_and_hits(rt: HostRuntime) -> Result<(), Fail> {
         < hit 4\n\
         < end at 4 tried 1 hits 1\n\
         ",
-    )?;
-    check(
-        &rt,
-        alloc,
+    ),
+    (
+        "the bond that two aromatic rings share",
         MEM,
         "\
         > register 1 c1ccc2cccc2cc1\n\
@@ -90,11 +83,9 @@ fn patterns_and_hits(rt: HostRuntime) -> Result<(), Fail> {
         < hit 1\n\
         < end at 1 tried 1 hits 1\n\
         ",
-    )?;
-    // hydrogen atoms, alternatives, recursive parts, parts that lie apart
-    check(
-        &rt,
-        alloc,
+    ),
+    (
+        "hydrogen atoms",
         MEM,
         "\
         > register 1 [2H]C\n\
@@ -107,10 +98,9 @@ fn patterns_and_hits(rt: HostRuntime) -> Result<(), Fail> {
         > search [#1][#1]\n\
         < end at 2 tried 0 hits 0\n\
         ",
-    )?;
-    check(
-        &rt,
-        alloc,
+    ),
+    (
+        "alternatives",
         MEM,
         "\
         > register 1 CC(=O)N\n\
@@ -128,10 +118,9 @@ fn patterns_and_hits(rt: HostRuntime) -> Result<(), Fail> {
         > search [C,N;H1]=O\n\
         < end at 3 tried 3 hits 0\n\
         ",
-    )?;
-    check(
-        &rt,
-        alloc,
+    ),
+    (
+        "recursive parts",
         MEM,
         "\
         > register 1 Oc1ccccc1\n\
@@ -152,10 +141,9 @@ fn patterns_and_hits(rt: HostRuntime) -> Result<(), Fail> {
         > search [Sc&Ra]\n\
         < end at 3 tried 1 hits 0\n\
         ",
-    )?;
-    check(
-        &rt,
-        alloc,
+    ),
+    (
+        "parts that lie apart",
         MEM,
         "\
         > register 1 CC(=O)Oc1ccccc1C(=O)O\n\
@@ -172,16 +160,10 @@ fn patterns_and_hits(rt: HostRuntime) -> Result<(), Fail> {
         < hit 3\n\
         < end at 3 tried 1 hits 1\n\
         ",
-    )
-}
-
-// Groups: in one component, in different ones, and beside atoms of no group.
-#[test]
-fn groups_lie_in_components(rt: HostRuntime) -> Result<(), Fail> {
-    let alloc = rt.alloc();
-    check(
-        &rt,
-        alloc,
+    ),
+    // Groups: in one component, in different ones, and beside atoms of no group.
+    (
+        "groups",
         MEM,
         "\
         > register 1 [Na+].[Cl-]\n\
@@ -222,11 +204,9 @@ fn groups_lie_in_components(rt: HostRuntime) -> Result<(), Fail> {
         < hit 3\n\
         < end at 3 tried 1 hits 1\n\
         ",
-    )?;
-    // salts and mixtures
-    check(
-        &rt,
-        alloc,
+    ),
+    (
+        "groups in salts and mixtures",
         MEM,
         "\
         > register 1 CC(=O)[O-].[Na+]\n\
@@ -256,54 +236,9 @@ fn groups_lie_in_components(rt: HostRuntime) -> Result<(), Fail> {
         > search ([#7].C(=O)[#8]).([#7].C(=O)[#8]).(*)\n\
         < end at 4 tried 3 hits 0\n\
         ",
-    )
-}
-
-// Many components, and many groups: no order of them is tried after another.
-#[test]
-fn many_groups_are_searched_for(rt: HostRuntime) -> Result<(), Fail> {
-    let rows = [
-        ("([C])", 20, "C", 30, 1),
-        ("([C])", 21, "C", 20, 0),
-        ("(C)", 21, "CC", 20, 0),
-        ("(C)", 64, "C", 300, 1),
-        ("(CC)", 21, "CCC", 20, 0),
-        ("(C.C)", 20, "CCO", 21, 1),
-        ("(C.C.C)", 8, "CC(C)C", 7, 0),
-    ];
-    for (group, groups, part, parts, hits) in rows {
-        let mut script = String::new(rt.alloc());
-        script.push_str("> register 1 ")?;
-        push_dotted(&mut script, part, parts)?;
-        script.push_str("\n< ok 1\n> search ")?;
-        push_dotted(&mut script, group, groups)?;
-        script.push_str("\n")?;
-        if hits > 0 {
-            script.push_str("< hit 1\n")?;
-        }
-        script.push_str("< end at 1 tried 1 hits ")?;
-        script.push_str(if hits > 0 { "1\n" } else { "0\n" })?;
-        check(&rt, rt.alloc(), MEM, &script)?;
-    }
-    Ok(())
-}
-
-// Appends a text so many times, with dots between.
-fn push_dotted(out: &mut String, text: &str, count: usize) -> Result<(), Fail> {
-    for place in 0..count {
-        if place > 0 {
-            out.push_str(".")?;
-        }
-        out.push_str(text)?;
-    }
-    Ok(())
-}
-
-#[test]
-fn refused_patterns(rt: HostRuntime) -> Result<(), Fail> {
-    check(
-        &rt,
-        rt.alloc(),
+    ),
+    (
+        "refused patterns",
         MEM,
         "\
         > register 1 c1ccccc1\n\
@@ -359,5 +294,47 @@ fn refused_patterns(rt: HostRuntime) -> Result<(), Fail> {
         > open s [R2]\n\
         < refused smarts ringset\n\
         ",
-    )
+    ),
+];
+
+// A group so many times, a part so many times, and the hits.
+const MANY: &[(&str, usize, &str, usize, u32)] = &[
+    ("([C])", 20, "C", 30, 1),
+    ("([C])", 21, "C", 20, 0),
+    ("(C)", 21, "CC", 20, 0),
+    ("(C)", 64, "C", 300, 1),
+    ("(CC)", 21, "CCC", 20, 0),
+    ("(C.C)", 20, "CCO", 21, 1),
+    ("(C.C.C)", 8, "CC(C)C", 7, 0),
+];
+
+// Many components, and many groups: no order of them is tried after another.
+#[test]
+fn many_groups_are_searched_for(rt: HostRuntime) -> Result<(), Fail> {
+    for &(group, groups, part, parts, hits) in MANY {
+        let mut script = String::new(rt.alloc());
+        script.push_str("> register 1 ")?;
+        push_dotted(&mut script, part, parts)?;
+        script.push_str("\n< ok 1\n> search ")?;
+        push_dotted(&mut script, group, groups)?;
+        script.push_str("\n")?;
+        if hits > 0 {
+            script.push_str("< hit 1\n")?;
+        }
+        script.push_str("< end at 1 tried 1 hits ")?;
+        script.push_str(if hits > 0 { "1\n" } else { "0\n" })?;
+        check(&rt, rt.alloc(), group, MEM, &script)?;
+    }
+    Ok(())
+}
+
+// Appends a text so many times, with dots between.
+fn push_dotted(out: &mut String, text: &str, count: usize) -> Result<(), Fail> {
+    for place in 0..count {
+        if place > 0 {
+            out.push_str(".")?;
+        }
+        out.push_str(text)?;
+    }
+    Ok(())
 }

@@ -23,31 +23,33 @@ fn assert_bits(rt: &impl Abort, text: &str, print: &Print, bits: &[u16]) {
     }
 }
 
+const STRUCTURES: &[(&str, &[u16])] = &[
+    ("CO", &[96, 98, 282, 358, 360, 486]),
+    ("CC", &[20, 96, 98, 224]),
+    ("CCO", &[20, 96, 98, 110, 224, 282, 358, 360, 486, 939]),
+    ("c1ccccc1", &[20, 82, 97, 98, 122, 251, 727, 782, 872, 965]),
+];
+
 #[test]
 fn bits_of_structures(rt: HostRuntime) -> Result<(), Fail> {
-    let rows: [(&str, &[u16]); 4] = [
-        ("CO", &[96, 98, 282, 358, 360, 486]),
-        ("CC", &[20, 96, 98, 224]),
-        ("CCO", &[20, 96, 98, 110, 224, 282, 358, 360, 486, 939]),
-        ("c1ccccc1", &[20, 82, 97, 98, 122, 251, 727, 782, 872, 965]),
-    ];
-    for (smiles, bits) in rows {
+    for &(smiles, bits) in STRUCTURES {
         assert_bits(&rt, smiles, &print_of(rt.alloc(), smiles)?, bits);
     }
     Ok(())
 }
 
+const PATTERNS: &[(&str, &[u16])] = &[
+    ("C=O", &[50, 96, 98, 239, 358, 360]),
+    ("[#6]~O", &[98, 358, 360]),
+    ("[#1]", &[467]),
+    ("[C,N]=O", &[358, 360]),
+    ("[$(C=O)]", &[]),
+    ("[!C]O", &[358, 360]),
+];
+
 #[test]
 fn bits_that_patterns_need(rt: HostRuntime) -> Result<(), Fail> {
-    let rows: [(&str, &[u16]); 6] = [
-        ("C=O", &[50, 96, 98, 239, 358, 360]),
-        ("[#6]~O", &[98, 358, 360]),
-        ("[#1]", &[467]),
-        ("[C,N]=O", &[358, 360]),
-        ("[$(C=O)]", &[]),
-        ("[!C]O", &[358, 360]),
-    ];
-    for (smarts, bits) in rows {
+    for &(smarts, bits) in PATTERNS {
         assert_bits(&rt, smarts, &need_of(rt.alloc(), smarts)?, bits);
     }
     Ok(())

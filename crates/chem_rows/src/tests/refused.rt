@@ -1,17 +1,14 @@
 //! Lines that are refused, and those behind them.
 ghost use Rattle.std.specs.Prelude.{◌<◌};
 
-use super::{MEM, PLAIN, Ways, answers, check};
+use super::{MEM, PLAIN, Script, Ways, answers};
 use std::alloc::{AllocError, Global};
 use std::test::Fail;
 
-#[test]
-fn refused_lines(rt: HostRuntime) -> Result<(), Fail> {
-    check(
-        &rt,
-        rt.alloc(),
-        &["mem"],
-        "\
+pub(super) const SCRIPTS: &[Script] = &[(
+    "refused lines",
+    MEM,
+    "\
         > \n\
         > search *\n\
         < end at 0 tried 0 hits 0\n\
@@ -93,8 +90,7 @@ fn refused_lines(rt: HostRuntime) -> Result<(), Fail> {
         > \n\
         < refused molfile cut\n\
         ",
-    )
-}
+)];
 
 // So many bytes of a letter behind words.
 fn push_long(script: &mut Vec<u8>, words: &[u8], letter: u8, count: u32) -> Result<(), AllocError> {
@@ -161,50 +157,51 @@ fn push_nest(
     Ok(())
 }
 
+// the words before, what opens and closes a level, how many there are, and the reply
+const NESTS: &[(&[u8], &[u8], &[u8], u32, &str)] = &[
+    (
+        b"register 1 ",
+        b"C(",
+        b")",
+        21_841,
+        "refused smiles limit\n",
+    ),
+    (b"register 1 ", b"C(", b")", 257, "refused smiles limit\n"),
+    (b"register 1 ", b"C(", b")", 256, "ok 1\n"),
+    (
+        b"register 2 ",
+        b"C(",
+        b"",
+        32_762,
+        "refused smiles syntax\n",
+    ),
+    (b"search ", b"[$(", b")]", 819, "refused smarts limit\n"),
+    (b"search ", b"[$(", b")]", 9, "refused smarts limit\n"),
+    (
+        b"search ",
+        b"[$(",
+        b")]",
+        8,
+        "hit 1\nend at 1 tried 1 hits 1\n",
+    ),
+    (b"search ", b"[$(", b"", 1_365, "refused smarts syntax\n"),
+    (b"search ", b"C(", b")", 1_365, "refused smarts limit\n"),
+    (
+        b"search ",
+        b"C(",
+        b")",
+        255,
+        "hit 1\nend at 1 tried 1 hits 1\n",
+    ),
+    (b"search ", b"(", b"", 4_095, "refused smarts syntax\n"),
+];
+
 #[test]
 fn lines_that_nest_as_deep_as_they_are_long(rt: HostRuntime) -> Result<(), Fail> {
     let alloc = rt.alloc();
-    // the words before, what opens and closes a level, how many there are, and the reply
-    let rows: [(&[u8], &[u8], &[u8], u32, &str); 11] = [
-        (
-            b"register 1 ",
-            b"C(",
-            b")",
-            21_841,
-            "refused smiles limit\n",
-        ),
-        (b"register 1 ", b"C(", b")", 257, "refused smiles limit\n"),
-        (b"register 1 ", b"C(", b")", 256, "ok 1\n"),
-        (
-            b"register 2 ",
-            b"C(",
-            b"",
-            32_762,
-            "refused smiles syntax\n",
-        ),
-        (b"search ", b"[$(", b")]", 819, "refused smarts limit\n"),
-        (b"search ", b"[$(", b")]", 9, "refused smarts limit\n"),
-        (
-            b"search ",
-            b"[$(",
-            b")]",
-            8,
-            "hit 1\nend at 1 tried 1 hits 1\n",
-        ),
-        (b"search ", b"[$(", b"", 1_365, "refused smarts syntax\n"),
-        (b"search ", b"C(", b")", 1_365, "refused smarts limit\n"),
-        (
-            b"search ",
-            b"C(",
-            b")",
-            255,
-            "hit 1\nend at 1 tried 1 hits 1\n",
-        ),
-        (b"search ", b"(", b"", 4_095, "refused smarts syntax\n"),
-    ];
     let mut script = Vec::new(alloc);
     let mut replies = String::new(alloc);
-    for (words, opening, closing, count, reply) in rows {
+    for &(words, opening, closing, count, reply) in NESTS {
         push_nest(&mut script, words, opening, closing, count)?;
         replies.push_str(reply)?;
     }

@@ -1,21 +1,11 @@
 //! Records of SD files, and their data items.
-use super::{MEM, check, replies_are};
+use super::{MEM, Script, replies_are};
 use std::alloc::{AllocError, Global};
 use std::test::Fail;
 
-// A molfile of one atom, by its header line.
-const OXYGEN: &str = "
-
-
-  1  0  0  0  0  0  0  0  0  0999 V2000
-    0.0000    0.0000    0.0000 O   0  0  0  0  0  0
-";
-
-#[test]
-fn an_acetate_with_its_name_and_one_without_an_end(rt: HostRuntime) -> Result<(), Fail> {
-    check(
-        &rt,
-        rt.alloc(),
+pub(super) const SCRIPTS: &[Script] = &[
+    (
+        "an acetate with its name and one without an end",
         MEM,
         "\
         > register-sd 7 2\n\
@@ -86,14 +76,9 @@ fn an_acetate_with_its_name_and_one_without_an_end(rt: HostRuntime) -> Result<()
         > register-sd 9 1\n\
         < refused sd cut\n\
         ",
-    )
-}
-
-#[test]
-fn records_are_answered_in_their_order(rt: HostRuntime) -> Result<(), Fail> {
-    check(
-        &rt,
-        rt.alloc(),
+    ),
+    (
+        "records are answered in their order",
         &["mem", "--commits", "4"],
         "\
         > register 3 C\n\
@@ -149,30 +134,9 @@ fn records_are_answered_in_their_order(rt: HostRuntime) -> Result<(), Fail> {
         < refused sd cut\n\
         < refused sd cut\n\
         ",
-    )
-}
-
-// Lines that end with CR and LF, a line that ends no record, and data with a line of one blank.
-#[test]
-fn a_record_with_data_items_in_lines_with_cr(rt: HostRuntime) -> Result<(), Fail> {
-    let alloc = rt.alloc();
-    let script = "register-sd 999999999 1\r\n\
-        \r\n\r\n\r\n  1  0  0     0  0              1 V2000\r\n\
-        \x20   0.0000    0.0000    0.0000 O   0  0\r\nM  END\r\n\
-        >  <A> (1)\r\none\r\n \r\ntwo\r\n\r\n$$$$ \r\n> <>\r\n\r\n$$$$\r\n\
-        data 999999999 A\ndata 999999999 \ndata 999999999 B\ndata 999999999\ndata 0 A\n";
-    let replies = "ok 1\ndata 999999999 3\none\n \ntwo\ndata 999999999 0\n\
-        refused data\nrefused syntax\nrefused id\n";
-    replies_are(&rt, alloc, script, replies)
-}
-
-#[test]
-fn lines_that_take_no_records_and_lines_that_take_them_in_vain(
-    rt: HostRuntime,
-) -> Result<(), Fail> {
-    check(
-        &rt,
-        rt.alloc(),
+    ),
+    (
+        "lines that take no records and lines that take them in vain",
         MEM,
         "\
         > register-sd\n\
@@ -208,7 +172,29 @@ fn lines_that_take_no_records_and_lines_that_take_them_in_vain(
         > register 1 C\n\
         < refused id\n\
         ",
-    )
+    ),
+];
+
+// A molfile of one atom, by its header line.
+const OXYGEN: &str = "
+
+
+  1  0  0  0  0  0  0  0  0  0999 V2000
+    0.0000    0.0000    0.0000 O   0  0  0  0  0  0
+";
+
+// Lines that end with CR and LF, a line that ends no record, and data with a line of one blank.
+#[test]
+fn a_record_with_data_items_in_lines_with_cr(rt: HostRuntime) -> Result<(), Fail> {
+    let alloc = rt.alloc();
+    let script = "register-sd 999999999 1\r\n\
+        \r\n\r\n\r\n  1  0  0     0  0              1 V2000\r\n\
+        \x20   0.0000    0.0000    0.0000 O   0  0\r\nM  END\r\n\
+        >  <A> (1)\r\none\r\n \r\ntwo\r\n\r\n$$$$ \r\n> <>\r\n\r\n$$$$\r\n\
+        data 999999999 A\ndata 999999999 \ndata 999999999 B\ndata 999999999\ndata 0 A\n";
+    let replies = "ok 1\ndata 999999999 3\none\n \ntwo\ndata 999999999 0\n\
+        refused data\nrefused syntax\nrefused id\n";
+    replies_are(&rt, alloc, script, replies)
 }
 
 // A record with a line that is too long is refused alone, and a text that is too big.

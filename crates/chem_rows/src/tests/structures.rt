@@ -1,7 +1,7 @@
 //! Structures: their texts, rings and aromatic atoms.
 ghost use Rattle.std.specs.Prelude.{◌<◌};
 
-use super::{Answer, PLAIN, call, check, put_by};
+use super::{Answer, MEM, PLAIN, Script, call, put_by};
 use aromatic::perceive;
 use ring_find::rings;
 use smiles_read::read_smiles;
@@ -11,12 +11,10 @@ use std::test::Fail;
 use std::thread::Threads;
 use valence::{fill_hydrogens, suppress};
 
-#[test]
-fn texts_of_structures(rt: HostRuntime) -> Result<(), Fail> {
-    check(
-        &rt,
-        rt.alloc(),
-        &["mem"],
+pub(super) const SCRIPTS: &[Script] = &[
+    (
+        "texts of structures",
+        MEM,
         "\
         > register 1 CCO\n\
         < ok 1\n\
@@ -46,11 +44,10 @@ fn texts_of_structures(rt: HostRuntime) -> Result<(), Fail> {
         < hit 5\n\
         < end at 5 tried 1 hits 1\n\
         ",
-    )?;
-    check(
-        &rt,
-        rt.alloc(),
-        &["mem"],
+    ),
+    (
+        "one structure written in several ways",
+        MEM,
         "\
         > register 1 c1ccccc1\n\
         < ok 1\n\
@@ -65,12 +62,10 @@ fn texts_of_structures(rt: HostRuntime) -> Result<(), Fail> {
         > register 3 CC:C\n\
         < refused smiles aromatic 1\n\
         ",
-    )?;
-    // the charge of a CHG line stands in place of those of the atom lines
-    check(
-        &rt,
-        rt.alloc(),
-        &["mem"],
+    ),
+    (
+        "the charge of a CHG line stands in place of those of the atom lines",
+        MEM,
         "\
         > register-mol 1\n\
         > acetate\n\
@@ -96,8 +91,8 @@ fn texts_of_structures(rt: HostRuntime) -> Result<(), Fail> {
         > register 1 C\n\
         < refused known\n\
         ",
-    )
-}
+    ),
+];
 
 // A structure is registered, and a pattern searched.
 fn search<R: Threads + Wait + Sync>(
@@ -130,67 +125,75 @@ fn stages_one_after_another(rt: HostRuntime) -> Result<(), Fail> {
 const C60: &str =
     "C12=C3C4=C5C6=C1C7=C8C9=C1C%10=C%11C(=C29)C3=C2C3=C4C4=C5C5=C9C6=C7C6=C7C8=C1C1=C8C%10=C%10C%11=C2C2=C3C3=C4C4=C5C5=C%11C%12=C(C6=C95)C7=C1C1=C%12C5=C%11C4=C3C3=C5C(=C81)C%10=C23";
 
+// Every atom is aromatic, or there are plain carbon atoms, or the place of the first that is refused. A recursive part
+// screens nothing, so each structure is tried.
+const NONE: &str = "ok 1\nend at 1 tried 1 hits 0\n";
+
+const PLAIN_CARBON: &str = "ok 1\nhit 1\nend at 1 tried 1 hits 1\n";
+
+const FIRST: &str = "refused smiles aromatic 0\nend at 0 tried 0 hits 0\n";
+
+// Structures, and what is put where they are registered and searched for plain carbon atoms.
+const FORMS: &[(&str, &str)] = &[
+    ("C1=CC=CC=C1", NONE),
+    ("n1ccccc1", NONE),
+    ("N1=CC=CC=C1", NONE),
+    ("[nH]1cccc1", NONE),
+    ("N1C=CC=C1", NONE),
+    ("n1cccc1", FIRST),
+    ("o1cccc1", NONE),
+    ("s1cccc1", NONE),
+    ("[se]1cccc1", NONE),
+    ("c1c[nH]cn1", NONE),
+    ("c1ccc2[nH]ccc2c1", NONE),
+    ("c1ccc2ccccc2c1", NONE),
+    ("C1=CC=C2C=CC=CC2=C1", NONE),
+    ("c1ccc2cccc2cc1", NONE),
+    ("[O-][n+]1ccccc1", NONE),
+    ("O=n1ccccc1", NONE),
+    ("O=c1cccc[nH]1", NONE),
+    ("O=C1C=CC=CN1", NONE),
+    ("O=C1C=CC(=O)C=C1", PLAIN_CARBON),
+    ("O=C1C=CC=CC=C1", NONE),
+    ("[cH+]1cccccc1", NONE),
+    ("[cH-]1cccc1", NONE),
+    ("[bH-]1ccccc1", NONE),
+    ("[b-]1ccccc1", FIRST),
+    ("[o+]1ccccc1", NONE),
+    ("c1ccc1", FIRST),
+    ("C1=CC=C1", PLAIN_CARBON),
+    ("c1ccccccc1", FIRST),
+    ("c1ccccccccccccccccc1", NONE),
+    ("c1ccccccccccccccccccc1", FIRST),
+    ("c1ccccc1c1ccccc1", NONE),
+    ("C12(CCCC1)CCCC2", PLAIN_CARBON),
+    ("C12C3C4C1C5C2C3C45", PLAIN_CARBON),
+    ("C1C2CC3CC1CC(C2)C3", PLAIN_CARBON),
+    (C60, NONE),
+    ("C1=Cc2cccc3cccc1c23", PLAIN_CARBON),
+    ("c1ccc2c(c1)c1ccccc12", NONE),
+    ("C=C1C=CC=C1", PLAIN_CARBON),
+    ("C1=CC=CC=CC=CC=CC=CC=CC=CC=CC=CC=C1", PLAIN_CARBON),
+    ("[Te]1C=CC=C1", PLAIN_CARBON),
+    (
+        "[te]1cccc1",
+        "refused smiles syntax\nend at 0 tried 0 hits 0\n",
+    ),
+    (
+        "*1ccccc1",
+        "refused smiles aromatic 1\nend at 0 tried 0 hits 0\n",
+    ),
+    // porphin: both outer atoms of a ring without NH lie on no cycle of at most 18 atoms with 4n+2 electrons
+    ("c1cc2cc3ccc([nH]3)cc3ccc(n3)cc3ccc([nH]3)cc1n2", FIRST),
+    (
+        "C1=CC2=CC3=CC=C(N3)C=C4C=CC(=N4)C=C5C=CC(=CC1=N2)N5",
+        PLAIN_CARBON,
+    ),
+];
+
 #[test]
 fn aromatic_forms(rt: HostRuntime) -> Result<(), Fail> {
-    // Every atom is aromatic, or the place of the first that is refused, or there are plain carbon atoms. A recursive
-    // part screens nothing, so each structure is tried.
-    let none = "ok 1\nend at 1 tried 1 hits 0\n";
-    let plain = "ok 1\nhit 1\nend at 1 tried 1 hits 1\n";
-    let first = "refused smiles aromatic 0\nend at 0 tried 0 hits 0\n";
-    let rows = [
-        ("C1=CC=CC=C1", none),
-        ("n1ccccc1", none),
-        ("N1=CC=CC=C1", none),
-        ("[nH]1cccc1", none),
-        ("N1C=CC=C1", none),
-        ("n1cccc1", first),
-        ("o1cccc1", none),
-        ("s1cccc1", none),
-        ("[se]1cccc1", none),
-        ("c1c[nH]cn1", none),
-        ("c1ccc2[nH]ccc2c1", none),
-        ("c1ccc2ccccc2c1", none),
-        ("C1=CC=C2C=CC=CC2=C1", none),
-        ("c1ccc2cccc2cc1", none),
-        ("[O-][n+]1ccccc1", none),
-        ("O=n1ccccc1", none),
-        ("O=c1cccc[nH]1", none),
-        ("O=C1C=CC=CN1", none),
-        ("O=C1C=CC(=O)C=C1", plain),
-        ("O=C1C=CC=CC=C1", none),
-        ("[cH+]1cccccc1", none),
-        ("[cH-]1cccc1", none),
-        ("[bH-]1ccccc1", none),
-        ("[b-]1ccccc1", first),
-        ("[o+]1ccccc1", none),
-        ("c1ccc1", first),
-        ("C1=CC=C1", plain),
-        ("c1ccccccc1", first),
-        ("c1ccccccccccccccccc1", none),
-        ("c1ccccccccccccccccccc1", first),
-        ("c1ccccc1c1ccccc1", none),
-        ("C12(CCCC1)CCCC2", plain),
-        ("C12C3C4C1C5C2C3C45", plain),
-        ("C1C2CC3CC1CC(C2)C3", plain),
-        (C60, none),
-        ("C1=Cc2cccc3cccc1c23", plain),
-        ("c1ccc2c(c1)c1ccccc12", none),
-        ("C=C1C=CC=C1", plain),
-        ("C1=CC=CC=CC=CC=CC=CC=CC=CC=CC=CC=C1", plain),
-        ("[Te]1C=CC=C1", plain),
-        (
-            "[te]1cccc1",
-            "refused smiles syntax\nend at 0 tried 0 hits 0\n",
-        ),
-        (
-            "*1ccccc1",
-            "refused smiles aromatic 1\nend at 0 tried 0 hits 0\n",
-        ),
-        // porphin: both outer atoms of a ring without NH lie on no cycle of at most 18 atoms with 4n+2 electrons
-        ("c1cc2cc3ccc([nH]3)cc3ccc(n3)cc3ccc([nH]3)cc1n2", first),
-        ("C1=CC2=CC3=CC=C(N3)C=C4C=CC(=N4)C=C5C=CC(=CC1=N2)N5", plain),
-    ];
-    for (text, replies) in rows {
+    for (text, replies) in FORMS {
         let answer = search(&rt, rt.alloc(), text, "[$(C)]")?;
         assert_eq!(rt; answer.status, 0, "at {text}");
         assert_eq!(rt; put_by(&answer), replies.as_bytes(), "at {text}");

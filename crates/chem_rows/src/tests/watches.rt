@@ -1,14 +1,11 @@
 //! Standing searches: what is watched, what commits do to its hits, and when they are searched anew.
-use super::{MEM, check, replies_are};
+use super::{MEM, Script, replies_are};
 use std::alloc::{AllocError, Global};
 use std::test::Fail;
 
-#[test]
-fn own_commits_move_a_watch(rt: HostRuntime) -> Result<(), Fail> {
-    let alloc = rt.alloc();
-    check(
-        &rt,
-        alloc,
+pub(super) const SCRIPTS: &[Script] = &[
+    (
+        "own commits move a watch",
         MEM,
         "\
         > register 1 CCO\n\
@@ -39,11 +36,9 @@ fn own_commits_move_a_watch(rt: HostRuntime) -> Result<(), Fail> {
         > hits w\n\
         < end at 5 hits 0 rebuilt 0\n\
         ",
-    )?;
-    // by each line that registers
-    check(
-        &rt,
-        alloc,
+    ),
+    (
+        "each line that registers moves a watch",
         MEM,
         "\
         > watch w O\n\
@@ -100,14 +95,9 @@ fn own_commits_move_a_watch(rt: HostRuntime) -> Result<(), Fail> {
         < hit 9\n\
         < end at 5 hits 2 rebuilt 0\n\
         ",
-    )
-}
-
-#[test]
-fn what_is_refused(rt: HostRuntime) -> Result<(), Fail> {
-    check(
-        &rt,
-        rt.alloc(),
+    ),
+    (
+        "watches that are refused",
         MEM,
         "\
         > hits w\n\
@@ -147,8 +137,68 @@ fn what_is_refused(rt: HostRuntime) -> Result<(), Fail> {
         > hits\n\
         < refused syntax\n\
         ",
-    )
-}
+    ),
+    (
+        "commits of others move no watch",
+        &["drill", "--page=1"],
+        "\
+        > 1 register 1 CO\n\
+        < 1 ok 1\n\
+        > 1 watch w O\n\
+        < 1 watching 1 hits 1\n\
+        > 2 register 2 CO\n\
+        < 2 ok 2\n\
+        > 1 hits w\n\
+        < 1 hit 1\n\
+        < 1 hit 2\n\
+        < 1 end at 2 hits 2 rebuilt 1\n\
+        > 1 hits w\n\
+        < 1 hit 1\n\
+        < 1 hit 2\n\
+        < 1 end at 2 hits 2 rebuilt 1\n\
+        # a watch that was left behind is not moved by commits of its own session\n\
+        > 2 withdraw 1\n\
+        < 2 ok 3\n\
+        > 1 register 3 CO\n\
+        < 1 ok 4\n\
+        > 1 hits w\n\
+        < 1 hit 2\n\
+        < 1 hit 3\n\
+        < 1 end at 4 hits 2 rebuilt 2\n\
+        > 2 hits w\n\
+        < 2 refused watch\n\
+        ",
+    ),
+    (
+        "a commit that the disk failed leaves a watch where it is, and a reopening leaves none",
+        &["drill"],
+        "\
+        > 1 register 1 CO\n\
+        < 1 ok 1\n\
+        > 1 watch w O\n\
+        < 1 watching 1 hits 1\n\
+        > fail 4\n\
+        < set\n\
+        > 1 register 2 CO\n\
+        < 1 fault disk doubt\n\
+        > 1 hits w\n\
+        < 1 hit 1\n\
+        < 1 end at 1 hits 1 rebuilt 0\n\
+        > 1 register 3 CO\n\
+        < 1 ok 2\n\
+        > 1 hits w\n\
+        < 1 hit 1\n\
+        < 1 hit 3\n\
+        < 1 end at 2 hits 2 rebuilt 0\n\
+        > reopen 0\n\
+        < reopened 2\n\
+        > 1 hits w\n\
+        < 1 refused watch\n\
+        > 1 watch w O\n\
+        < 1 watching 2 hits 2\n\
+        ",
+    ),
+];
 
 // 17 watches where 16 may be.
 fn many_watches(alloc: Global) -> Result<(String, String), AllocError> {
@@ -190,72 +240,4 @@ fn long_scripts(rt: HostRuntime) -> Result<(), Fail> {
         replies_are(&rt, alloc, script, replies)?;
     }
     Ok(())
-}
-
-#[test]
-fn commits_of_others(rt: HostRuntime) -> Result<(), Fail> {
-    let alloc = rt.alloc();
-    check(
-        &rt,
-        alloc,
-        &["drill", "--page=1"],
-        "\
-        > 1 register 1 CO\n\
-        < 1 ok 1\n\
-        > 1 watch w O\n\
-        < 1 watching 1 hits 1\n\
-        > 2 register 2 CO\n\
-        < 2 ok 2\n\
-        > 1 hits w\n\
-        < 1 hit 1\n\
-        < 1 hit 2\n\
-        < 1 end at 2 hits 2 rebuilt 1\n\
-        > 1 hits w\n\
-        < 1 hit 1\n\
-        < 1 hit 2\n\
-        < 1 end at 2 hits 2 rebuilt 1\n\
-        # a watch that was left behind is not moved by commits of its own session\n\
-        > 2 withdraw 1\n\
-        < 2 ok 3\n\
-        > 1 register 3 CO\n\
-        < 1 ok 4\n\
-        > 1 hits w\n\
-        < 1 hit 2\n\
-        < 1 hit 3\n\
-        < 1 end at 4 hits 2 rebuilt 2\n\
-        > 2 hits w\n\
-        < 2 refused watch\n\
-        ",
-    )?;
-    // a commit that the disk failed leaves a watch where it is, and a reopening leaves none
-    check(
-        &rt,
-        alloc,
-        &["drill"],
-        "\
-        > 1 register 1 CO\n\
-        < 1 ok 1\n\
-        > 1 watch w O\n\
-        < 1 watching 1 hits 1\n\
-        > fail 4\n\
-        < set\n\
-        > 1 register 2 CO\n\
-        < 1 fault disk doubt\n\
-        > 1 hits w\n\
-        < 1 hit 1\n\
-        < 1 end at 1 hits 1 rebuilt 0\n\
-        > 1 register 3 CO\n\
-        < 1 ok 2\n\
-        > 1 hits w\n\
-        < 1 hit 1\n\
-        < 1 hit 3\n\
-        < 1 end at 2 hits 2 rebuilt 0\n\
-        > reopen 0\n\
-        < reopened 2\n\
-        > 1 hits w\n\
-        < 1 refused watch\n\
-        > 1 watch w O\n\
-        < 1 watching 2 hits 2\n\
-        ",
-    )
 }

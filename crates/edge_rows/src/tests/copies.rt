@@ -131,15 +131,17 @@ fn a_stopped_start_leaves_the_store_or_none(rt: HostRuntime) -> Result<(), Fail>
     Ok(())
 }
 
+// Calls that pass, whether the finish is in doubt, and whether each image is open.
+const FINISHES: &[(u64, bool, [bool; 4])] = &[
+    (0, false, [false, false, false, false]),
+    (1, false, [false, false, false, false]),
+    (2, true, [false, false, true, false]),
+    (3, true, [true, false, true, false]),
+];
+
 #[test]
 fn a_stopped_finish_is_there_or_not(rt: HostRuntime) -> Result<(), Fail> {
-    let rows: [(u64, bool, [bool; 4]); 4] = [
-        (0, false, [false, false, false, false]),
-        (1, false, [false, false, false, false]),
-        (2, true, [false, false, true, false]),
-        (3, true, [true, false, true, false]),
-    ];
-    for (calls, is_doubt, left) in rows {
+    for &(calls, is_doubt, left) in FINISHES {
         for choice in 0..4 {
             let (disk, doubt) = stopped(rt.alloc(), calls)?;
             assert_eq!(rt; doubt, is_doubt, "{calls}");

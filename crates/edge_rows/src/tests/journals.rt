@@ -144,16 +144,18 @@ fn a_base_stands_in_front_of_the_records(rt: HostRuntime) -> Result<(), Fail> {
     Ok(())
 }
 
+// Calls that pass, the answer, and how many payloads each image has.
+const APPENDS: &[(u64, Result<(), AppendFault>, [u64; 6])] = &[
+    (0, Err(AppendFault::Sure), [1, 1, 1, 1, 1, 1]),
+    (1, Err(AppendFault::Sure), [1, 1, 1, 1, 1, 1]),
+    (2, Err(AppendFault::Doubt), [1, 1, 2, 1, 1, 1]),
+    (3, Err(AppendFault::Doubt), [2, 1, 2, 1, 1, 1]),
+    (4, Ok(()), [2, 2, 2, 2, 2, 2]),
+];
+
 #[test]
 fn a_crash_leaves_the_payload_or_not(rt: HostRuntime) -> Result<(), Fail> {
-    let rows: [(u64, Result<(), AppendFault>, [u64; 6]); 5] = [
-        (0, Err(AppendFault::Sure), [1, 1, 1, 1, 1, 1]),
-        (1, Err(AppendFault::Sure), [1, 1, 1, 1, 1, 1]),
-        (2, Err(AppendFault::Doubt), [1, 1, 2, 1, 1, 1]),
-        (3, Err(AppendFault::Doubt), [2, 1, 2, 1, 1, 1]),
-        (4, Ok(()), [2, 2, 2, 2, 2, 2]),
-    ];
-    for (calls, answer, left) in rows {
+    for &(calls, answer, left) in APPENDS {
         for choice in 0..6 {
             let disk = MemDisk::of(rt.alloc(), FILE.to_vec(rt.alloc())?)?;
             let (mut journal, _) = read(rt.alloc(), disk)?;

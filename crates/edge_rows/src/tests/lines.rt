@@ -33,23 +33,24 @@ fn answers<S: Source>(alloc: Global, source: &mut S, limit: u64) -> Result<Vec<u
     Ok(said)
 }
 
+const LINES: &[(&[u8], u64, &[u8])] = &[
+    (b"", 100, b"."),
+    (b"\n\n", 100, b"||."),
+    (b"ab\ncd\n", 100, b"ab|cd|."),
+    (b"ab\r\n\r\ncd", 100, b"ab||cd|."),
+    (b"ab\r\r\n", 100, b"ab\r|."),
+    (b"a\rb\n", 100, b"a\rb|."),
+    (b"ab\r", 100, b"ab\r|."),
+    (b"\r", 100, b"\r|."),
+    (b"ab\ncd\n", 7, b"ab|cd|."),
+    (b"ab\ncd\n", 6, b"ab|cd|#"),
+    (b"ab\ncd\n", 5, b"ab|#"),
+    (b"ab\n", 0, b"#"),
+];
+
 #[test]
 fn texts_are_cut_into_lines(rt: HostRuntime) -> Result<(), Fail> {
-    let rows: [(&[u8], u64, &[u8]); 12] = [
-        (b"", 100, b"."),
-        (b"\n\n", 100, b"||."),
-        (b"ab\ncd\n", 100, b"ab|cd|."),
-        (b"ab\r\n\r\ncd", 100, b"ab||cd|."),
-        (b"ab\r\r\n", 100, b"ab\r|."),
-        (b"a\rb\n", 100, b"a\rb|."),
-        (b"ab\r", 100, b"ab\r|."),
-        (b"\r", 100, b"\r|."),
-        (b"ab\ncd\n", 7, b"ab|cd|."),
-        (b"ab\ncd\n", 6, b"ab|cd|#"),
-        (b"ab\ncd\n", 5, b"ab|#"),
-        (b"ab\n", 0, b"#"),
-    ];
-    for (text, limit, want) in rows {
+    for &(text, limit, want) in LINES {
         for piece in [1, 3, 1000] {
             assert!(rt; 1 <= piece);
             let bytes = text.to_vec(rt.alloc())?;
@@ -61,17 +62,18 @@ fn texts_are_cut_into_lines(rt: HostRuntime) -> Result<(), Fail> {
     Ok(())
 }
 
+const LONG: &[(usize, &[u8], bool)] = &[
+    (65_536, b"\nab\n", false),
+    (65_537, b"\nab\n", true),
+    (65_536, b"\r\nab\n", false),
+    (65_537, b"\r\nab\n", true),
+    (200_000, b"\nab\n", true),
+    (200_000, b"\r\nab", true),
+];
+
 #[test]
 fn long_lines_are_told(rt: HostRuntime) -> Result<(), Fail> {
-    let rows: [(usize, &[u8], bool); 6] = [
-        (65_536, b"\nab\n", false),
-        (65_537, b"\nab\n", true),
-        (65_536, b"\r\nab\n", false),
-        (65_537, b"\r\nab\n", true),
-        (200_000, b"\nab\n", true),
-        (200_000, b"\r\nab", true),
-    ];
-    for (length, end, long) in rows {
+    for &(length, end, long) in LONG {
         for piece in [1, 3, 1000] {
             assert!(rt; 1 <= piece);
             let mut bytes = vec![in rt.alloc(); b'x'; length]?;

@@ -50,25 +50,27 @@ fn a_change_is_written_as_its_bytes(rt: HostRuntime) -> Result<(), Fail> {
     Ok(())
 }
 
+// Bytes, and whether they are the payload of a change.
+const PAYLOADS: &[(&[u8], bool)] = &[
+    (b"", false),
+    (b"\x01\x01\0\0\0\x01", true),
+    (b"\x02\x01\0\0\0\x02C\n", true),
+    (b"\x03\x01\0\0\0", true),
+    (b"\x01\x01\0\0\0", false),
+    (b"\x01\x01\0\0\0\x03C", false),
+    (b"\x01\x01\0\0\0\0C", false),
+    (b"\x03\x01\0\0\0\x01", false),
+    (b"\x03\x01\0\0", false),
+    (b"\x04\x01\0\0\0", false),
+    (b"\0\x01\0\0\0", false),
+    (b"\x03\0\0\0\0", false),
+    (b"\x03\xff\xc9\x9a\x3b", true),
+    (b"\x03\0\xca\x9a\x3b", false),
+];
+
 #[test]
 fn what_is_no_payload_is_told(rt: HostRuntime) -> Result<(), Fail> {
-    let rows: [(&[u8], bool); 14] = [
-        (b"", false),
-        (b"\x01\x01\0\0\0\x01", true),
-        (b"\x02\x01\0\0\0\x02C\n", true),
-        (b"\x03\x01\0\0\0", true),
-        (b"\x01\x01\0\0\0", false),
-        (b"\x01\x01\0\0\0\x03C", false),
-        (b"\x01\x01\0\0\0\0C", false),
-        (b"\x03\x01\0\0\0\x01", false),
-        (b"\x03\x01\0\0", false),
-        (b"\x04\x01\0\0\0", false),
-        (b"\0\x01\0\0\0", false),
-        (b"\x03\0\0\0\0", false),
-        (b"\x03\xff\xc9\x9a\x3b", true),
-        (b"\x03\0\xca\x9a\x3b", false),
-    ];
-    for (payload, is_written) in rows {
+    for &(payload, is_written) in PAYLOADS {
         match decode(rt.alloc(), payload)? {
             Some(wire) => {
                 assert!(rt; is_written, "{payload:?}");
@@ -81,27 +83,29 @@ fn what_is_no_payload_is_told(rt: HostRuntime) -> Result<(), Fail> {
     Ok(())
 }
 
+// Files, and how many commits they have.
+const LOGS: &[(&[u8], Result<usize, LoadFault>)] = &[
+    (b"", Err(LoadFault::NotAStore)),
+    (b"ZCHEMDB1\0", Ok(0)),
+    (b"ZCHEMDB1Z\x05\0\0\0\x03\x01\0\0\0\0rest", Ok(1)),
+    (
+        b"ZCHEMDB1Z\x05\0\0\0\x03\x01\0\0\0Z\x05\0\0\0\x03\x02\0\0\0\x01",
+        Ok(2),
+    ),
+    (
+        b"ZCHEMDB1Z\x05\0\0\0\x03\x01\0\0\0",
+        Err(LoadFault::Damaged(18)),
+    ),
+    (
+        b"ZCHEMDB1Z\x05\0\0\0\x03\x01\0\0\0Z\0\0\0\0\0",
+        Err(LoadFault::Damaged(18)),
+    ),
+    (b"ZCHEMDB1Z\x01\0\x10\0", Err(LoadFault::Damaged(8))),
+];
+
 #[test]
 fn a_log_is_read_or_its_damage_told(rt: HostRuntime) -> Result<(), Fail> {
-    let rows: [(&[u8], Result<usize, LoadFault>); 7] = [
-        (b"", Err(LoadFault::NotAStore)),
-        (b"ZCHEMDB1\0", Ok(0)),
-        (b"ZCHEMDB1Z\x05\0\0\0\x03\x01\0\0\0\0rest", Ok(1)),
-        (
-            b"ZCHEMDB1Z\x05\0\0\0\x03\x01\0\0\0Z\x05\0\0\0\x03\x02\0\0\0\x01",
-            Ok(2),
-        ),
-        (
-            b"ZCHEMDB1Z\x05\0\0\0\x03\x01\0\0\0",
-            Err(LoadFault::Damaged(18)),
-        ),
-        (
-            b"ZCHEMDB1Z\x05\0\0\0\x03\x01\0\0\0Z\0\0\0\0\0",
-            Err(LoadFault::Damaged(18)),
-        ),
-        (b"ZCHEMDB1Z\x01\0\x10\0", Err(LoadFault::Damaged(8))),
-    ];
-    for (file, want) in rows {
+    for &(file, want) in LOGS {
         match read(rt.alloc(), file) {
             Ok(commits) => assert_eq!(rt; Ok(commits.len()), want),
             Err(fault) => assert_eq!(rt; Err(fault), want),
@@ -132,23 +136,25 @@ fn entry(alloc: Global) -> Result<BaseEntry, Fail> {
     })
 }
 
+// Bytes, and whether they are the payload of an entry.
+const ENTRIES: &[(&[u8], bool)] = &[
+    (b"", false),
+    (b"\x04\x01\0\0\0\0\0\0\0\x02C\n", true),
+    (b"\x05\x01\0\0\0\xff\xff\xff\xff", true),
+    (b"\x05\x01\0\0\0\x02\0\0\0\0", false),
+    (b"\x05\x01\0\0\0\x02\0\0", false),
+    (b"\x04\x01\0\0\0\x02\0\0\0", false),
+    (b"\x04\x01\0\0\0\x02\0\0\0\x03C", false),
+    (b"\x06\x01\0\0\0\x02\0\0\0", false),
+    (b"\x05\0\0\0\0\x02\0\0\0", false),
+];
+
 #[test]
 fn an_entry_is_read_from_its_payload_alone(rt: HostRuntime) -> Result<(), Fail> {
     let written = encode_base(rt.alloc(), &entry(rt.alloc())?)?;
     assert_eq!(rt; written.as_slice(), ENTRY.as_slice());
     assert_eq!(rt; decode_base(rt.alloc(), &ENTRY)?, Some(entry(rt.alloc())?));
-    let rows: [(&[u8], bool); 9] = [
-        (b"", false),
-        (b"\x04\x01\0\0\0\0\0\0\0\x02C\n", true),
-        (b"\x05\x01\0\0\0\xff\xff\xff\xff", true),
-        (b"\x05\x01\0\0\0\x02\0\0\0\0", false),
-        (b"\x05\x01\0\0\0\x02\0\0", false),
-        (b"\x04\x01\0\0\0\x02\0\0\0", false),
-        (b"\x04\x01\0\0\0\x02\0\0\0\x03C", false),
-        (b"\x06\x01\0\0\0\x02\0\0\0", false),
-        (b"\x05\0\0\0\0\x02\0\0\0", false),
-    ];
-    for (payload, is_written) in rows {
+    for &(payload, is_written) in ENTRIES {
         assert_eq!(rt; is_entry(rt.alloc(), payload)?, is_written, "{payload:?}");
     }
     Ok(())
@@ -177,35 +183,37 @@ fn based(alloc: Global, version: u8, count: u8, parts: &[&[u8]]) -> Result<Vec<u
     Ok(file)
 }
 
+// A base version, a number of base records, what stands behind the header, and how many entries and commits are read.
+const BASES: &[(u8, u8, &[&[u8]], Result<(usize, usize), LoadFault>)] = &[
+    (0, 0, &[b"\0"], Ok((0, 0))),
+    (5, 2, &[ONE, TWO, b"\0"], Ok((2, 0))),
+    (5, 1, &[ONE, b"Z\x05\0\0\0\x03\x01\0\0\0\0"], Ok((1, 1))),
+    (5, 1, &[ONE, b"Z"], Err(LoadFault::Damaged(33))),
+    (5, 2, &[ONE], Err(LoadFault::Damaged(33))),
+    (5, 2, &[TWO, ONE, b"\0"], Err(LoadFault::Damaged(33))),
+    (5, 2, &[ONE, ONE, b"\0"], Err(LoadFault::Damaged(33))),
+    (4, 2, &[ONE, TWO, b"\0"], Err(LoadFault::Damaged(33))),
+    (5, 1, &[b"\0\0\0\0\0"], Err(LoadFault::Damaged(20))),
+    (5, 1, &[b"\x01\0\x10\0"], Err(LoadFault::Damaged(20))),
+    (5, 1, &[b"\x09\0\0"], Err(LoadFault::Damaged(20))),
+    (5, 1, &[b"\x01\0\0\0\x06"], Err(LoadFault::Damaged(20))),
+    (
+        5,
+        1,
+        &[b"\x09\0\0\0\x05\0\0\0\0\x02\0\0\0"],
+        Err(LoadFault::Damaged(20)),
+    ),
+    (
+        5,
+        1,
+        &[b"\x09\0\0\0\x05\x01\0\0\0\0\0\0\0"],
+        Err(LoadFault::Damaged(20)),
+    ),
+];
+
 #[test]
 fn a_base_is_read_or_its_damage_told(rt: HostRuntime) -> Result<(), Fail> {
-    let rows: [(u8, u8, &[&[u8]], Result<(usize, usize), LoadFault>); 14] = [
-        (0, 0, &[b"\0"], Ok((0, 0))),
-        (5, 2, &[ONE, TWO, b"\0"], Ok((2, 0))),
-        (5, 1, &[ONE, b"Z\x05\0\0\0\x03\x01\0\0\0\0"], Ok((1, 1))),
-        (5, 1, &[ONE, b"Z"], Err(LoadFault::Damaged(33))),
-        (5, 2, &[ONE], Err(LoadFault::Damaged(33))),
-        (5, 2, &[TWO, ONE, b"\0"], Err(LoadFault::Damaged(33))),
-        (5, 2, &[ONE, ONE, b"\0"], Err(LoadFault::Damaged(33))),
-        (4, 2, &[ONE, TWO, b"\0"], Err(LoadFault::Damaged(33))),
-        (5, 1, &[b"\0\0\0\0\0"], Err(LoadFault::Damaged(20))),
-        (5, 1, &[b"\x01\0\x10\0"], Err(LoadFault::Damaged(20))),
-        (5, 1, &[b"\x09\0\0"], Err(LoadFault::Damaged(20))),
-        (5, 1, &[b"\x01\0\0\0\x06"], Err(LoadFault::Damaged(20))),
-        (
-            5,
-            1,
-            &[b"\x09\0\0\0\x05\0\0\0\0\x02\0\0\0"],
-            Err(LoadFault::Damaged(20)),
-        ),
-        (
-            5,
-            1,
-            &[b"\x09\0\0\0\x05\x01\0\0\0\0\0\0\0"],
-            Err(LoadFault::Damaged(20)),
-        ),
-    ];
-    for (version, count, parts, want) in rows {
+    for &(version, count, parts, want) in BASES {
         let file = based(rt.alloc(), version, count, parts)?;
         let found = match read_both(rt.alloc(), &file) {
             Ok((base, commits)) => Ok((base.len(), commits.len())),

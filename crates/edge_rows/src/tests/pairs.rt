@@ -91,18 +91,22 @@ fn generation(alloc: Global, pair: Pair<MemDisk>, image: u32) -> Result<u32, Fai
     }
 }
 
+const SURE: Result<(), PutFault> = Err(PutFault::DiskFault { doubt: false });
+
+const DOUBT: Result<(), PutFault> = Err(PutFault::DiskFault { doubt: true });
+
+// Calls that pass, the answer, and the generation of each image.
+const FINISHES: &[(u64, Result<(), PutFault>, [u32; 4])] = &[
+    (0, SURE, [0, 0, 0, 0]),
+    (1, SURE, [0, 0, 0, 0]),
+    (2, DOUBT, [0, 0, 1, 0]),
+    (3, DOUBT, [1, 0, 1, 0]),
+    (4, Ok(()), [1, 1, 1, 1]),
+];
+
 #[test]
 fn a_stopped_finish_is_there_or_not(rt: HostRuntime) -> Result<(), Fail> {
-    let sure = Err(PutFault::DiskFault { doubt: false });
-    let doubt = Err(PutFault::DiskFault { doubt: true });
-    let rows: [(u64, Result<(), PutFault>, [u32; 4]); 5] = [
-        (0, sure, [0, 0, 0, 0]),
-        (1, sure, [0, 0, 0, 0]),
-        (2, doubt, [0, 0, 1, 0]),
-        (3, doubt, [1, 0, 1, 0]),
-        (4, Ok(()), [1, 1, 1, 1]),
-    ];
-    for (calls, outcome, left) in rows {
+    for &(calls, outcome, left) in FINISHES {
         for image in 0..4 {
             let mut pair = copied(rt.alloc())?;
             pair.stop_after(Which::Second, calls);

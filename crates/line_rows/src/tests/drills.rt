@@ -34,17 +34,19 @@ fn drilled<R: Threads + Sync>(rt: &R, alloc: Global, script: &str) -> Result<Str
     }
 }
 
+// Calls that pass, the answer, and the version after a reopening at each image.
+const STOPS: &[(u32, &str, [u32; 4])] = &[
+    (0, "fault disk sure", [1, 1, 1, 1]),
+    (1, "fault disk sure", [1, 1, 1, 1]),
+    (2, "fault disk doubt", [1, 1, 2, 1]),
+    (3, "fault disk doubt", [2, 1, 2, 1]),
+    (4, "ok 2", [2, 2, 2, 2]),
+];
+
 #[test]
 fn a_stop_leaves_the_commit_or_not(rt: HostRuntime) -> Result<(), Fail> {
     let alloc = rt.alloc();
-    let rows = [
-        (0, "fault disk sure", [1, 1, 1, 1]),
-        (1, "fault disk sure", [1, 1, 1, 1]),
-        (2, "fault disk doubt", [1, 1, 2, 1]),
-        (3, "fault disk doubt", [2, 1, 2, 1]),
-        (4, "ok 2", [2, 2, 2, 2]),
-    ];
-    for (calls, answer, left) in rows {
+    for &(calls, answer, left) in STOPS {
         for image in 0..4 {
             let script = format!(in alloc;
                 "1 register 1 CCO\nstop {calls}\n1 register 2 CC=O\nreopen {image}\n"
@@ -99,34 +101,36 @@ fn no_acknowledged_commit_is_lost(rt: HostRuntime) -> Result<(), Fail> {
     Ok(())
 }
 
+// Lines of no drill.
+const NONE: &[&str] = &[
+    "01 stats",
+    "0 stats",
+    "17 stats",
+    "1",
+    " 1 stats",
+    "stop",
+    "stop  1",
+    "stop 01",
+    "stop 1000001",
+    "fail 0",
+    "fail 1000001",
+    "fail 1 ",
+    "stop-b",
+    "stop-b 01",
+    "stop-a 1",
+    "stop- 1",
+    "fail-b 0",
+    "fail-b 1000001",
+    "reopen 4294967296",
+    "reopen -1",
+    "Stop 1",
+    "stats",
+];
+
 #[test]
 fn lines_that_are_none_are_refused(rt: HostRuntime) -> Result<(), Fail> {
-    let refused = [
-        "01 stats",
-        "0 stats",
-        "17 stats",
-        "1",
-        " 1 stats",
-        "stop",
-        "stop  1",
-        "stop 01",
-        "stop 1000001",
-        "fail 0",
-        "fail 1000001",
-        "fail 1 ",
-        "stop-b",
-        "stop-b 01",
-        "stop-a 1",
-        "stop- 1",
-        "fail-b 0",
-        "fail-b 1000001",
-        "reopen 4294967296",
-        "reopen -1",
-        "Stop 1",
-        "stats",
-    ];
     let alloc = rt.alloc();
-    for line in refused {
+    for &line in NONE {
         assert_eq!(rt;
             drilled(&rt, alloc, line)?.as_str(),
             "refused drill\n",

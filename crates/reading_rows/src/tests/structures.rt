@@ -144,19 +144,21 @@ fn components_are(mol: &Mol, components: &[u16]) -> bool {
     right
 }
 
+// Texts, and the least atom of each atom's component.
+const COMPONENTS: &[(&str, &[u16])] = &[
+    ("C", &[0]),
+    ("CCO", &[0, 0, 0]),
+    ("[Na+].[Cl-]", &[0, 1]),
+    ("CO.CN.C", &[0, 0, 2, 2, 4]),
+    ("C1.O.C1", &[0, 1, 0]),
+    ("C1.C2.C3.C12.C3", &[0, 0, 2, 0, 2]),
+    ("C(.O)(C)(.N)C1CC1", &[0, 1, 0, 3, 0, 0, 0]),
+];
+
 // In whatever order atoms and bonds are written.
 #[test]
 fn components_are_named_by_their_least_atom(rt: HostRuntime) -> Result<(), Fail> {
-    let texts: [(&str, &[u16]); 7] = [
-        ("C", &[0]),
-        ("CCO", &[0, 0, 0]),
-        ("[Na+].[Cl-]", &[0, 1]),
-        ("CO.CN.C", &[0, 0, 2, 2, 4]),
-        ("C1.O.C1", &[0, 1, 0]),
-        ("C1.C2.C3.C12.C3", &[0, 0, 2, 0, 2]),
-        ("C(.O)(C)(.N)C1CC1", &[0, 1, 0, 3, 0, 0, 0]),
-    ];
-    for (text, components) in texts {
+    for &(text, components) in COMPONENTS {
         let mol = structure(rt.alloc(), Format::Smiles, text.as_bytes())?;
         assert!(rt;
             components_are(&mol, components),
@@ -192,16 +194,18 @@ fn are_alike(
     Ok(first.atoms() == second.atoms() && first.bonds() == second.bonds())
 }
 
+// Two texts of one structure.
+const ALIKE: &[((Format, &str), (Format, &str))] = &[
+    (
+        (Format::Smiles, "C1=CC=CC=C1"),
+        (Format::Smiles, "c1ccccc1"),
+    ),
+    ((Format::Molfile, ACETATE), (Format::Smiles, "CC(=O)[O-]")),
+];
+
 #[test]
 fn texts_of_one_structure(rt: HostRuntime) -> Result<(), Fail> {
-    let rows = [
-        (
-            (Format::Smiles, "C1=CC=CC=C1"),
-            (Format::Smiles, "c1ccccc1"),
-        ),
-        ((Format::Molfile, ACETATE), (Format::Smiles, "CC(=O)[O-]")),
-    ];
-    for (first, second) in rows {
+    for &(first, second) in ALIKE {
         assert!(rt; are_alike(rt.alloc(), first, second)?, "{}", second.1);
     }
     Ok(())

@@ -59,20 +59,22 @@ fn three_entries(alloc: Global) -> Result<Chains<char>, AllocError> {
     Ok(chains)
 }
 
+// What an identifier has at a version.
+const READ: &[(u32, u32, Option<(u32, char)>)] = &[
+    (7, 0, None),
+    (7, 1, Some((1, 'a'))),
+    (7, 2, Some((1, 'a'))),
+    (7, 3, Some((3, 'b'))),
+    (2, 1, None),
+    (2, 9, Some((2, 'c'))),
+    (5, 9, None),
+];
+
 #[test]
 fn an_entry_is_read_until_the_next(rt: HostRuntime) -> Result<(), Fail> {
     let chains = three_entries(rt.alloc())?;
-    let rows = [
-        (7, 0, None),
-        (7, 1, Some((1, 'a'))),
-        (7, 2, Some((1, 'a'))),
-        (7, 3, Some((3, 'b'))),
-        (2, 1, None),
-        (2, 9, Some((2, 'c'))),
-        (5, 9, None),
-    ];
     let mut finder = chains.finder(0);
-    for (id, version, entry) in rows {
+    for &(id, version, entry) in READ {
         let both = [find(&mut finder, id, version), look(&chains, id, version)];
         assert_eq!(rt; both, [entry; 2], "{id} at {version}");
     }
@@ -89,17 +91,19 @@ fn an_identifier_has_an_entry(rt: HostRuntime) -> Result<(), Fail> {
     Ok(())
 }
 
+// The least dead entry from a place on, beside pins of versions.
+const DEAD: &[((u32, u32), &[u32], Option<(u32, u32)>)] = &[
+    ((0, 0), &[2, 3], None),
+    ((0, 0), &[1, 3], None),
+    ((0, 0), &[1], Some((2, 2))),
+    ((2, 3), &[1], Some((7, 3))),
+    ((0, 0), &[3], Some((7, 1))),
+];
+
 #[test]
 fn an_entry_is_dead_where_nobody_reads_it(rt: HostRuntime) -> Result<(), Fail> {
     let mut chains = three_entries(rt.alloc())?;
-    let rows: [((u32, u32), &[u32], Option<(u32, u32)>); 5] = [
-        ((0, 0), &[2, 3], None),
-        ((0, 0), &[1, 3], None),
-        ((0, 0), &[1], Some((2, 2))),
-        ((2, 3), &[1], Some((7, 3))),
-        ((0, 0), &[3], Some((7, 1))),
-    ];
-    for (from, live, dead) in rows {
+    for &(from, live, dead) in DEAD {
         assert_eq!(rt; chains.dead_from(from, live), dead, "{live:?}");
     }
     let taken = [chains.take(7, 2), chains.take(7, 1)];
@@ -107,6 +111,14 @@ fn an_entry_is_dead_where_nobody_reads_it(rt: HostRuntime) -> Result<(), Fail> {
     assert_eq!(rt; (chains.dead(&[3]), chains.kept()), (None, 2));
     Ok(())
 }
+
+// What the identifier then has at a version.
+const LEFT: &[(u32, Option<(u32, char)>)] = &[
+    (1, None),
+    (5, Some((2, 'b'))),
+    (6, Some((6, 'd'))),
+    (9, Some((6, 'd'))),
+];
 
 #[test]
 fn one_more_follows_where_the_newest_and_the_oldest_were_taken(
@@ -124,13 +136,7 @@ fn one_more_follows_where_the_newest_and_the_oldest_were_taken(
     chains.reserve(4)?;
     chains.add(4, 6, 'd');
     assert_eq!(rt; (taken, left), ([Some('c'), Some('a')], Some((2, 'b'))));
-    let rows = [
-        (1, None),
-        (5, Some((2, 'b'))),
-        (6, Some((6, 'd'))),
-        (9, Some((6, 'd'))),
-    ];
-    for (version, entry) in rows {
+    for &(version, entry) in LEFT {
         assert_eq!(rt; look(&chains, 4, version), entry, "at {version}");
     }
     assert_eq!(rt; (chains.dead(&[6]), chains.kept()), (Some((4, 2)), 2));

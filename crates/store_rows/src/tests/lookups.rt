@@ -30,18 +30,20 @@ fn are_same(
     }
 }
 
+// A text, the records of a page, what is the same, and how many were tried.
+const SAME: &[(&[u8], u32, &[u32], u32)] = &[
+    (b"C(C)O", 256, &[1, 2], 2),
+    (b"C(C)O", 1, &[1, 2], 2),
+    (b"CC", 2, &[], 3),
+    (b"CO", 2, &[], 2),
+    (b"c1ccccc1", 256, &[4], 1),
+];
+
 #[test]
 fn ethanol_written_in_two_ways(rt: HostRuntime) -> Result<(), Fail> {
     let alloc = rt.alloc();
     let mut store = store_of(alloc, &[b"OCC", b"CCO", b"CCN", b"C1=CC=CC=C1"])?;
-    let rows: [(&[u8], u32, &[u32], u32); 5] = [
-        (b"C(C)O", 256, &[1, 2], 2),
-        (b"C(C)O", 1, &[1, 2], 2),
-        (b"CC", 2, &[], 3),
-        (b"CO", 2, &[], 2),
-        (b"c1ccccc1", 256, &[4], 1),
-    ];
-    for (text, size, hits, tried) in rows {
+    for &(text, size, hits, tried) in SAME {
         assert!(rt;
             are_same(alloc, &mut store, text, size, hits, tried),
             "{text:?}"

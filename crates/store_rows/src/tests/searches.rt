@@ -105,20 +105,21 @@ fn has_thirds<R: Threads + Sync>(
     Ok(are_told && all.as_slice() == thirds.as_slice())
 }
 
+const BATCHES: &[(u32, u32, &[(Option<u32>, u32)])] = &[
+    (1, 1, &[(Some(33), 32), (None, 8), (None, 0)]),
+    (4, 1, &[(Some(33), 32), (None, 8), (None, 0)]),
+    (16, 1, &[(Some(33), 32), (None, 8), (None, 0)]),
+    (3, 2, &[(None, 40), (None, 0)]),
+    (1, 256, &[(None, 40), (None, 0)]),
+    (4, 256, &[(None, 40), (None, 0)]),
+];
+
 // Several workers take 32 pages of one record in four groups; twenty pages of two records end within the third group,
 // and one page of 256 has all.
 #[test]
 fn batches_have_the_hits_of_their_pages(rt: HostRuntime) -> Result<(), Fail> {
     let mut store = alkanes(rt.alloc())?;
-    let rows: [(u32, u32, &[(Option<u32>, u32)]); 6] = [
-        (1, 1, &[(Some(33), 32), (None, 8), (None, 0)]),
-        (4, 1, &[(Some(33), 32), (None, 8), (None, 0)]),
-        (16, 1, &[(Some(33), 32), (None, 8), (None, 0)]),
-        (3, 2, &[(None, 40), (None, 0)]),
-        (1, 256, &[(None, 40), (None, 0)]),
-        (4, 256, &[(None, 40), (None, 0)]),
-    ];
-    for (workers, page, steps) in rows {
+    for &(workers, page, steps) in BATCHES {
         assert!(rt;
             has_thirds(&rt, rt.alloc(), &mut store, workers, page, steps)?,
             "{workers} workers, pages of {page}"
@@ -165,21 +166,22 @@ fn two_pieces_are_matched_at_once(rt: HostRuntime) -> Result<(), Fail> {
     Ok(())
 }
 
+const EMBEDDINGS: &[(&str, Option<&[u16]>)] = &[
+    ("CC", Some(&[1, 2])),
+    ("OC", Some(&[0, 1])),
+    ("CO", Some(&[1, 0])),
+    ("OO", None),
+    ("*.*", Some(&[0, 1])),
+    ("[C;$(*O)]", Some(&[1])),
+];
+
 // The least embedding of each pattern in ethanol, whose oxygen is written first.
 #[test]
 fn least_embeddings_in_ethanol(rt: HostRuntime) -> Result<(), Fail> {
     let alloc = rt.alloc();
     let ethanol = Record::make(alloc, 1, Format::Smiles, b"OCC")?;
     let mut scratch = Scratch::reserve(alloc)?;
-    let rows: [(&str, Option<&[u16]>); 6] = [
-        ("CC", Some(&[1, 2])),
-        ("OC", Some(&[0, 1])),
-        ("CO", Some(&[1, 0])),
-        ("OO", None),
-        ("*.*", Some(&[0, 1])),
-        ("[C;$(*O)]", Some(&[1])),
-    ];
-    for (smarts, want) in rows {
+    for &(smarts, want) in EMBEDDINGS {
         let pattern = parse(alloc, smarts.as_bytes())?;
         let found = first(&pattern, ethanol.mol(), &mut scratch);
         let atoms = found.map(|found| found.atoms);

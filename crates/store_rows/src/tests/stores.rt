@@ -154,47 +154,49 @@ fn a_commit_is_on_the_disk(rt: HostRuntime) -> Result<(), Fail> {
     Ok(())
 }
 
+// Files, and how many commits are loaded.
+const FILES: &[(&[u8], Result<u32, LoadFault>)] = &[
+    (b"", Err(LoadFault::NotAStore)),
+    (b"ZCHEMDB2\0\0\0\0\0\0\0\0\0\0\0\0\0", Ok(0)),
+    (b"ZCHEMDB3\0", Err(LoadFault::NotAStore)),
+    (b"ZCHEMDB1\0", Ok(0)),
+    (b"ZCHEMDB1", Err(LoadFault::Damaged(8))),
+    (b"ZCHEMDB1[\x07\0\0\0\x01\x01\0\0\0\x01C\0", Ok(0)),
+    (
+        b"ZCHEMDB1Z\x08\0\0\0\x01\x01\0\0\0\x01C\0",
+        Err(LoadFault::Damaged(21)),
+    ),
+    (
+        b"ZCHEMDB1Z\x07\0\0\0\x81\x01\0\0\0\x01C\0",
+        Err(LoadFault::Damaged(8)),
+    ),
+    (
+        b"ZCHEMDB1Z\x07\0\0\0\x01\x01\0\0\0\x01CZ\x07\0\0",
+        Err(LoadFault::Damaged(20)),
+    ),
+    (b"ZCHEMDB1Z\x07\0\0\0\x01\x01\0\0\0\x01C\0", Ok(1)),
+    (
+        b"ZCHEMDB1Z\x07\0\0\0\x01\x01\0\0\0\x01(\0",
+        Err(LoadFault::Damaged(8)),
+    ),
+    (
+        b"ZCHEMDB1Z\x05\0\0\0\x03\x01\0\0\0\0",
+        Err(LoadFault::Damaged(8)),
+    ),
+    (
+        b"ZCHEMDB1Z\x07\0\0\0\x01\x01\0\0\0\x01CZ\x07\0\0\0\x01\x01\0\0\0\x01C\0",
+        Err(LoadFault::Damaged(20)),
+    ),
+    (
+        b"ZCHEMDB1Z\x05\0\0\0\x03\x01\0\0\0Z\0\0\0\0\0",
+        Err(LoadFault::Damaged(18)),
+    ),
+];
+
 #[test]
 fn a_file_is_loaded_or_its_damage_told(rt: HostRuntime) -> Result<(), Fail> {
     let alloc = rt.alloc();
-    let rows: [(&[u8], Result<u32, LoadFault>); 14] = [
-        (b"", Err(LoadFault::NotAStore)),
-        (b"ZCHEMDB2\0\0\0\0\0\0\0\0\0\0\0\0\0", Ok(0)),
-        (b"ZCHEMDB3\0", Err(LoadFault::NotAStore)),
-        (b"ZCHEMDB1\0", Ok(0)),
-        (b"ZCHEMDB1", Err(LoadFault::Damaged(8))),
-        (b"ZCHEMDB1[\x07\0\0\0\x01\x01\0\0\0\x01C\0", Ok(0)),
-        (
-            b"ZCHEMDB1Z\x08\0\0\0\x01\x01\0\0\0\x01C\0",
-            Err(LoadFault::Damaged(21)),
-        ),
-        (
-            b"ZCHEMDB1Z\x07\0\0\0\x81\x01\0\0\0\x01C\0",
-            Err(LoadFault::Damaged(8)),
-        ),
-        (
-            b"ZCHEMDB1Z\x07\0\0\0\x01\x01\0\0\0\x01CZ\x07\0\0",
-            Err(LoadFault::Damaged(20)),
-        ),
-        (b"ZCHEMDB1Z\x07\0\0\0\x01\x01\0\0\0\x01C\0", Ok(1)),
-        (
-            b"ZCHEMDB1Z\x07\0\0\0\x01\x01\0\0\0\x01(\0",
-            Err(LoadFault::Damaged(8)),
-        ),
-        (
-            b"ZCHEMDB1Z\x05\0\0\0\x03\x01\0\0\0\0",
-            Err(LoadFault::Damaged(8)),
-        ),
-        (
-            b"ZCHEMDB1Z\x07\0\0\0\x01\x01\0\0\0\x01CZ\x07\0\0\0\x01\x01\0\0\0\x01C\0",
-            Err(LoadFault::Damaged(20)),
-        ),
-        (
-            b"ZCHEMDB1Z\x05\0\0\0\x03\x01\0\0\0Z\0\0\0\0\0",
-            Err(LoadFault::Damaged(18)),
-        ),
-    ];
-    for (file, want) in rows {
+    for &(file, want) in FILES {
         let disk = MemDisk::of(alloc, file.to_vec(alloc)?)?;
         assert_eq!(rt; commits(alloc, disk), want, "{want:?}");
     }
@@ -209,35 +211,37 @@ const COMPACTED: [u8; 59] = *b"ZCHEMDB2\x01\0\0\0\x03\0\0\0\x02\0\0\0\
     \x09\0\0\0\x05\x02\0\0\0\x03\0\0\0\
     Z\x05\0\0\0\x03\x01\0\0\0\0";
 
+// The files of two disks, and the version that is loaded.
+const DISKS: &[(&[u8], &[u8], Result<u32, LoadFault>)] = &[
+    (&EMPTY, &COMPACTED, Ok(4)),
+    (&COMPACTED, &EMPTY, Ok(4)),
+    (
+        b"ZCHEMDB1Z\x07\0\0\0\x01\x01\0\0\0\x01C\0",
+        b"ZCHEMDB2\0\0\0\0\x05\0\0\0\0\0\0\0\0",
+        Ok(1),
+    ),
+    (b"ZCHEMDB2\x02\0\0\0\x05\0\0\0\0\0\0\0\0", &COMPACTED, Ok(5)),
+    (
+        &EMPTY,
+        b"ZCHEMDB2\x01\0\0\0\0\0\0\x01\0\0\0\0\0",
+        Err(LoadFault::Damaged(12)),
+    ),
+    (
+        &EMPTY,
+        b"ZCHEMDB2\x01\0\0\0\x03\0\0\0\x01\0\0\0\x09\0\0\0\x05\x02\0\0\0\x04\0\0\0\0",
+        Err(LoadFault::Damaged(20)),
+    ),
+    (
+        &EMPTY,
+        b"ZCHEMDB2\x01\0\0\0\x03\0\0\0\x01\0\0\0\x0b\0\0\0\x04\x01\0\0\0\x01\0\0\0\x01(\0",
+        Err(LoadFault::Damaged(20)),
+    ),
+];
+
 #[test]
 fn the_disk_of_the_later_generation_is_read(rt: HostRuntime) -> Result<(), Fail> {
     let alloc = rt.alloc();
-    let rows: [(&[u8], &[u8], Result<u32, LoadFault>); 7] = [
-        (&EMPTY, &COMPACTED, Ok(4)),
-        (&COMPACTED, &EMPTY, Ok(4)),
-        (
-            b"ZCHEMDB1Z\x07\0\0\0\x01\x01\0\0\0\x01C\0",
-            b"ZCHEMDB2\0\0\0\0\x05\0\0\0\0\0\0\0\0",
-            Ok(1),
-        ),
-        (b"ZCHEMDB2\x02\0\0\0\x05\0\0\0\0\0\0\0\0", &COMPACTED, Ok(5)),
-        (
-            &EMPTY,
-            b"ZCHEMDB2\x01\0\0\0\0\0\0\x01\0\0\0\0\0",
-            Err(LoadFault::Damaged(12)),
-        ),
-        (
-            &EMPTY,
-            b"ZCHEMDB2\x01\0\0\0\x03\0\0\0\x01\0\0\0\x09\0\0\0\x05\x02\0\0\0\x04\0\0\0\0",
-            Err(LoadFault::Damaged(20)),
-        ),
-        (
-            &EMPTY,
-            b"ZCHEMDB2\x01\0\0\0\x03\0\0\0\x01\0\0\0\x0b\0\0\0\x04\x01\0\0\0\x01\0\0\0\x01(\0",
-            Err(LoadFault::Damaged(20)),
-        ),
-    ];
-    for (first, second, want) in rows {
+    for &(first, second, want) in DISKS {
         let disks = disks_of(alloc, first, second)?;
         assert_eq!(rt; version(alloc, disks), want, "{want:?}");
     }
@@ -286,18 +290,22 @@ fn stopped(
     Ok((answer, commits(alloc, disk)))
 }
 
+const SURE: Result<u32, CommitFault> = Err(CommitFault::DiskFault { doubt: false });
+
+const DOUBT: Result<u32, CommitFault> = Err(CommitFault::DiskFault { doubt: true });
+
+// Calls that pass, the answer, and how many commits each image has.
+const STOPS: &[(u64, Result<u32, CommitFault>, [u32; 6])] = &[
+    (0, SURE, [1, 1, 1, 1, 1, 1]),
+    (1, SURE, [1, 1, 1, 1, 1, 1]),
+    (2, DOUBT, [1, 1, 2, 1, 1, 1]),
+    (3, DOUBT, [2, 1, 2, 1, 1, 1]),
+    (4, Ok(2), [2, 2, 2, 2, 2, 2]),
+];
+
 #[test]
 fn a_crash_leaves_the_commit_or_not(rt: HostRuntime) -> Result<(), Fail> {
-    let sure = Err(CommitFault::DiskFault { doubt: false });
-    let doubt = Err(CommitFault::DiskFault { doubt: true });
-    let rows: [(u64, Result<u32, CommitFault>, [u32; 6]); 5] = [
-        (0, sure, [1, 1, 1, 1, 1, 1]),
-        (1, sure, [1, 1, 1, 1, 1, 1]),
-        (2, doubt, [1, 1, 2, 1, 1, 1]),
-        (3, doubt, [2, 1, 2, 1, 1, 1]),
-        (4, Ok(2), [2, 2, 2, 2, 2, 2]),
-    ];
-    for (calls, answer, left) in rows {
+    for &(calls, answer, left) in STOPS {
         for choice in 0..6 {
             assert_eq!(rt;
                 stopped(rt.alloc(), calls, choice)?,

@@ -37,19 +37,21 @@ fn two_watches(alloc: Global) -> Result<Watches, Fail> {
     Ok(watches)
 }
 
+// A commit's version, identifier and text, the hits of the first watch, and the version and hits of the second.
+const COMMITS: &[(u32, u32, &[u8], &[u32], u32, &[u32])] = &[
+    (1, 4, b"CCO", &[4], 2, &[]),
+    (2, 2, b"CO", &[2, 4], 2, &[]),
+    (3, 3, b"CCN", &[2, 4], 3, &[3]),
+    (4, 2, b"CC", &[4], 4, &[3]),
+    (5, 4, b"NCO", &[4], 5, &[3, 4]),
+    (6, 4, b"", &[], 6, &[3]),
+];
+
 #[test]
 fn a_row_of_commits_with_both_lists_after_each(rt: HostRuntime) -> Result<(), Fail> {
     let alloc = rt.alloc();
     let mut watches = two_watches(alloc)?;
-    let rows: [(u32, u32, &[u8], &[u32], u32, &[u32]); 6] = [
-        (1, 4, b"CCO", &[4], 2, &[]),
-        (2, 2, b"CO", &[2, 4], 2, &[]),
-        (3, 3, b"CCN", &[2, 4], 3, &[3]),
-        (4, 2, b"CC", &[4], 4, &[3]),
-        (5, 4, b"NCO", &[4], 5, &[3, 4]),
-        (6, 4, b"", &[], 6, &[3]),
-    ];
-    for (version, id, text, oxygens, nitrogen_version, nitrogens) in rows {
+    for &(version, id, text, oxygens, nitrogen_version, nitrogens) in COMMITS {
         commit(alloc, &mut watches, version, id, text)?;
         let has_oxygens = watches.list(b"o") == Some((version, oxygens));
         let has_nitrogens = watches.list(b"n") == Some((nitrogen_version, nitrogens));

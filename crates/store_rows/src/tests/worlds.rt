@@ -44,18 +44,22 @@ fn stopped(alloc: Global, calls: u64, image: u32) -> Result<(Result<u32, CommitF
     Ok((answer, commits))
 }
 
+const SURE: Result<u32, CommitFault> = Err(CommitFault::DiskFault { doubt: false });
+
+const DOUBT: Result<u32, CommitFault> = Err(CommitFault::DiskFault { doubt: true });
+
+// Calls that pass, the answer, and how many commits each image has.
+const STOPS: &[(u64, Result<u32, CommitFault>, [u32; 4])] = &[
+    (0, SURE, [1, 1, 1, 1]),
+    (1, SURE, [1, 1, 1, 1]),
+    (2, DOUBT, [1, 1, 2, 1]),
+    (3, DOUBT, [2, 1, 2, 1]),
+    (4, Ok(2), [2, 2, 2, 2]),
+];
+
 #[test]
 fn a_stop_leaves_the_commit_or_not(rt: HostRuntime) -> Result<(), Fail> {
-    let sure = Err(CommitFault::DiskFault { doubt: false });
-    let doubt = Err(CommitFault::DiskFault { doubt: true });
-    let rows: [(u64, Result<u32, CommitFault>, [u32; 4]); 5] = [
-        (0, sure, [1, 1, 1, 1]),
-        (1, sure, [1, 1, 1, 1]),
-        (2, doubt, [1, 1, 2, 1]),
-        (3, doubt, [2, 1, 2, 1]),
-        (4, Ok(2), [2, 2, 2, 2]),
-    ];
-    for (calls, answer, left) in rows {
+    for &(calls, answer, left) in STOPS {
         for image in 0..4 {
             assert_eq!(rt;
                 stopped(rt.alloc(), calls, image)?,

@@ -1,4 +1,0 @@
-use Rattle.store_core.proofs.tests.commit.Goals as goal
-
-pub returns : goal.returns
-returns c = λ slot version held. (c.commit.ensures.held slot version).1 held

@@ -1,4 +1,0 @@
-use Rattle.store_core.proofs.tests.has_both.Given as goal
-
-abbrev pub ghosts-has_both_by : goal.ghosts-has_both_by
-ghosts-has_both_by a = record { name = a.blank.name; parts = a.blank.parts }

@@ -1,4 +1,0 @@
-use Rattle.store_core.proofs.tests.has_both_by.Goals as goal
-
-pub returns : goal.returns
-returns g c = λ slot version held. (c.fetch.ensures.held slot version).1 held

@@ -1,5 +1,0 @@
-use Rattle.store_core.specs.Only.{HasOnly}
-use Rattle.store_core.proofs.tests.register_methanes.Given as goal
-
-abbrev pub invariant-loop-id : goal.invariant-loop-id
-invariant-loop-id l = HasOnly l.store l.want l.only
