@@ -1,6 +1,6 @@
 //! Generated scripts and their summaries.
 
-use super::{PLAIN, Ways, answers};
+use super::{Ways, answers};
 use std::test::Fail;
 
 // The summary of 2,000 structures, by any pages and workers.
