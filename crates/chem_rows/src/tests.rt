@@ -55,10 +55,85 @@ const SCRIPTS: &[&[Script]] = &[
     compact::SCRIPTS,
 ];
 
+// A text that stands once for each number from a first to a last one. `@` in it is the number.
+type Piece = (&'static [u8], u32, u32);
+
+// What a script is about, words, the pieces of the script, and those of its replies.
+type Made = (
+    &'static str,
+    &'static [&'static str],
+    &'static [Piece],
+    &'static [Piece],
+);
+
+// The scripts of all files that are made of pieces.
+const MADE: &[&[Made]] = &[
+    cursors::MADE,
+    refused::MADE,
+    lookups::MADE,
+    sd::MADE,
+    watches::MADE,
+    compact::MADE,
+];
+
 #[test]
 fn scripts(rt: HostRuntime) -> Result<(), Fail> {
     for (about, words, rows) in SCRIPTS.iter().copied().flatten() {
         check(&rt, rt.alloc(), about, words, rows)?;
+    }
+    Ok(())
+}
+
+#[test]
+fn scripts_of_pieces(rt: HostRuntime) -> Result<(), Fail> {
+    for (about, words, script, replies) in MADE.iter().copied().flatten() {
+        assert!(rt;
+            made_answers(&rt, rt.alloc(), words, script, replies)?,
+            "{about}"
+        );
+    }
+    Ok(())
+}
+
+// Whether a script of pieces has its replies, and the status 0.
+fn made_answers<R: Threads + Wait + Sync>(
+    rt: &R,
+    alloc: Global,
+    words: &[&str],
+    script: &[Piece],
+    replies: &[Piece],
+) -> Result<bool, AllocError> {
+    let script = made(alloc, script)?;
+    let replies = made(alloc, replies)?;
+    let answer = call(rt, alloc, words, script.as_slice(), PLAIN)?;
+    Ok(answer.status == 0 && put_by(&answer) == replies.as_slice())
+}
+
+// The text of pieces.
+fn made(alloc: Global, pieces: &[Piece]) -> Result<Vec<u8>, AllocError> {
+    let mut text = Vec::new(alloc);
+    for &(piece, first, last) in pieces {
+        for number in first..=last {
+            push_numbered(alloc, &mut text, piece, number)?;
+        }
+    }
+    Ok(text)
+}
+
+// Appends a text with a number in place of each `@`.
+fn push_numbered(
+    alloc: Global,
+    text: &mut Vec<u8>,
+    piece: &[u8],
+    number: u32,
+) -> Result<(), AllocError> {
+    let mut is_first = true;
+    for part in piece.split(|byte| *byte == b'@') {
+        if !is_first {
+            text.extend_from_slice(format!(in alloc; "{number}")?.as_bytes())?;
+        }
+        is_first = false;
+        text.extend_from_slice(part)?;
     }
     Ok(())
 }
@@ -110,6 +185,42 @@ fn call_on<R: Threads + Wait + Sync, D: Disk + Send + Drop>(
     let ends = ends(alloc, count, script, ways)?;
     let (a, b) = disks;
     Ok(chemdb(rt, alloc, words, a, b, ends))
+}
+
+// `run` of a script over these disks.
+fn run<R: Threads + Wait + Sync>(
+    rt: &R,
+    alloc: Global,
+    script: &str,
+    disks: (MemDisk, MemDisk),
+) -> Result<Answer, AllocError> {
+    call_on(rt, alloc, &["run", "f"], script.as_bytes(), PLAIN, disks)
+}
+
+// A disk that holds these bytes, synced.
+fn disk_of(alloc: Global, bytes: &[u8]) -> Result<MemDisk, AllocError> {
+    MemDisk::of(alloc, bytes.to_vec(alloc)?)
+}
+
+// Whether an answer has these replies, and these bytes on its two disks.
+fn has_left(answer: &Answer, replies: &str, left: (&[u8], &[u8])) -> bool {
+    put_by(answer) == replies.as_bytes() && answer.a.bytes() == left.0 && answer.b.bytes() == left.1
+}
+
+// Whether `run` of a script over two disks with these bytes ends with a status and a place of damage, has these replies,
+// and leaves these bytes on the disks.
+fn run_leaves<R: Threads + Wait + Sync>(
+    rt: &R,
+    alloc: Global,
+    disks: (&[u8], &[u8]),
+    script: &str,
+    end: (u8, u64),
+    replies: &str,
+    left: (&[u8], &[u8]),
+) -> Result<bool, AllocError> {
+    let disks = (disk_of(alloc, disks.0)?, disk_of(alloc, disks.1)?);
+    let answer = run(rt, alloc, script, disks)?;
+    Ok((answer.status, answer.place) == end && has_left(&answer, replies, left))
 }
 
 // How many ends the words have. Where they ask for nothing, it is one.
@@ -185,27 +296,12 @@ fn answers<R: Abort + Threads + Wait + Sync>(
     requires { 0 < ways.piece }
 {
     let answer = call(rt, alloc, words, script, ways)?;
-    assert_eq!(rt; answer.status, status, "at {words:?}");
-    assert_eq!(rt; put_by(&answer), replies, "at {words:?}");
+    assert_eq!(rt;
+        (answer.status, put_by(&answer)),
+        (status, replies),
+        "at {words:?}"
+    );
     Ok(())
-}
-
-// A script over a session in memory has the status 0 and these replies.
-fn replies_are<R: Abort + Threads + Wait + Sync>(
-    rt: &R,
-    alloc: Global,
-    script: &str,
-    replies: &str,
-) -> Result<(), Fail> {
-    answers(
-        rt,
-        alloc,
-        MEM,
-        script.as_bytes(),
-        PLAIN,
-        0,
-        replies.as_bytes(),
-    )
 }
 
 // A script over words has its replies, and the status is 0. Behind `> ` stands a line of the script, behind `< ` a line

@@ -1,11 +1,7 @@
 //! Compactions: what is written, while others work, and where a disk stops or fails at a call of one.
 
-use super::{Answer, MEM, ONE_COMMIT, PLAIN, Script, call_on, check, put_by};
-use disk_edge::MemDisk;
-use std::alloc::{AllocError, Global};
-use std::sync::Wait;
+use super::{MEM, Made, ONE_COMMIT, Script, check, run_leaves};
 use std::test::Fail;
-use std::thread::Threads;
 
 pub(super) const SCRIPTS: &[Script] = &[
     (
@@ -81,98 +77,104 @@ pub(super) const SCRIPTS: &[Script] = &[
 const COMPACTED: &[u8] =
     b"ZCHEMDB2\x01\0\0\0\x01\0\0\0\x01\0\0\0\x0d\0\0\0\x04\x01\0\0\0\x01\0\0\0\x01CCO\0";
 
-// `run` of a script over two disks with these bytes.
-fn run<R: Threads + Wait + Sync>(
-    rt: &R,
-    alloc: Global,
-    a: &[u8],
-    b: &[u8],
-    script: &str,
-) -> Result<Answer, AllocError> {
-    let a = MemDisk::of(alloc, a.to_vec(alloc)?)?;
-    let b = MemDisk::of(alloc, b.to_vec(alloc)?)?;
-    call_on(rt, alloc, &["run", "f"], script.as_bytes(), PLAIN, (a, b))
-}
-
 // The compacted store with a second commit.
 const TWO_COMMITS: &[u8] =
     b"ZCHEMDB2\x01\0\0\0\x01\0\0\0\x01\0\0\0\x0d\0\0\0\x04\x01\0\0\0\x01\0\0\0\x01CCO\
     Z\x07\0\0\0\x01\x02\0\0\0\x01C\0";
 
-// what is on the two disks, the script, its replies, and what is on the second disk then
-const STEPS: &[(&[u8], &str, &str, &[u8])] = &[
+// The same compacted a second time: a header, and a base of two records.
+const COMPACTED_TWICE: &[u8] =
+    b"ZCHEMDB2\x02\0\0\0\x02\0\0\0\x02\0\0\0\x0d\0\0\0\x04\x01\0\0\0\x01\0\0\0\x01CCO\
+    \x0b\0\0\0\x04\x02\0\0\0\x02\0\0\0\x01C\0";
+
+// what is on the second disk beside a store of one commit, a script, and what `run` of it leaves: the status, the place of
+// damage, the replies, and what is on both disks
+type Step = (
+    &'static [u8],
+    &'static str,
+    u8,
+    u64,
+    &'static str,
+    &'static [u8],
+    &'static [u8],
+);
+
+const STEPS: &[Step] = &[
     (
         b"",
         "compact\ncompact\ncompact\n",
+        0,
+        0,
         "compacting 1\ncompacting 0\ncompacted 1\n",
+        ONE_COMMIT,
         COMPACTED,
     ),
     (
         COMPACTED,
         "show 1\nregister 2 C\n",
+        0,
+        0,
         "record 1 version 1 smiles CCO\nok 2\n",
+        ONE_COMMIT,
         TWO_COMMITS,
+    ),
+    // a compaction to the first disk
+    (
+        TWO_COMMITS,
+        "compact\ncompact\ncompact\nstats\n",
+        0,
+        0,
+        "compacting 2\ncompacting 0\ncompacted 2\nstats version 2 live 2 withdrawn 0 kept 2 pins 0\n",
+        COMPACTED_TWICE,
+        TWO_COMMITS,
+    ),
+    // a copy that is cut is damaged
+    (
+        b"ZCHEMDB2\x01\0\0\0\x01\0\0\0\x01\0\0\0\x0d\0\0\0\x04\x01\0\0\0\x01\0\0\0\x01CC",
+        "show 1\n",
+        7,
+        20,
+        "",
+        ONE_COMMIT,
+        b"ZCHEMDB2\x01\0\0\0\x01\0\0\0\x01\0\0\0\x0d\0\0\0\x04\x01\0\0\0\x01\0\0\0\x01CC",
     ),
 ];
 
 #[test]
 fn a_store_is_compacted(rt: HostRuntime) -> Result<(), Fail> {
-    for &(second, script, replies, left) in STEPS {
-        let answer = run(&rt, rt.alloc(), ONE_COMMIT, second, script)?;
+    for &(second, script, status, place, replies, a, b) in STEPS {
+        let disks = (ONE_COMMIT, second);
         assert!(rt;
-            answer.status == 0 && put_by(&answer) == replies.as_bytes(),
-            "{script}"
-        );
-        assert!(rt;
-            answer.a.bytes() == ONE_COMMIT && answer.b.bytes() == left,
+            run_leaves(
+                &rt,
+                rt.alloc(),
+                disks,
+                script,
+                (status, place),
+                replies,
+                (a, b)
+            )?,
             "{script}"
         );
     }
     Ok(())
 }
 
-#[test]
-fn a_store_is_compacted_to_the_first_disk(rt: HostRuntime) -> Result<(), Fail> {
-    let script = "compact\ncompact\ncompact\nstats\n";
-    let replies =
-        b"compacting 2\ncompacting 0\ncompacted 2\nstats version 2 live 2 withdrawn 0 kept 2 pins 0\n";
-    let answer = run(&rt, rt.alloc(), ONE_COMMIT, TWO_COMMITS, script)?;
-    assert_eq!(rt; put_by(&answer), replies.as_slice());
-    assert!(rt; answer.a.bytes().starts_with(b"ZCHEMDB2\x02\0\0\0"));
-    Ok(())
-}
-
-#[test]
-fn a_cut_copy_is_damaged(rt: HostRuntime) -> Result<(), Fail> {
-    let answer = run(&rt, rt.alloc(), ONE_COMMIT, &COMPACTED[..36], "show 1\n")?;
-    assert_eq!(rt; (answer.status, answer.place), (7, 20));
-    Ok(())
-}
-
-// The generation of the compaction behind a crash that left the image of this number, where the disk was stopped after
-// so many calls of the finish before it.
-const GENERATIONS: [[u32; 4]; 5] = [
-    [1, 1, 1, 1],
-    [1, 1, 1, 1],
-    [1, 1, 2, 1],
-    [2, 1, 2, 1],
-    [2, 2, 2, 2],
-];
-
-// The answer of that finish.
-const FINISHES: [&str; 5] = [
-    "fault disk sure",
-    "fault disk sure",
-    "fault disk doubt",
-    "fault disk doubt",
-    "compacted 1",
+// The answer of a finish where the disk is stopped after so many calls of it, and the generation of the compaction behind
+// a crash that left the image of this number.
+const FINISHES: &[(&str, &[u32])] = &[
+    ("fault disk sure", &[1, 1, 1, 1]),
+    ("fault disk sure", &[1, 1, 1, 1]),
+    ("fault disk doubt", &[1, 1, 2, 1]),
+    ("fault disk doubt", &[2, 1, 2, 1]),
+    ("compacted 1", &[2, 2, 2, 2]),
 ];
 
 #[test]
 fn a_finish_is_stopped_at_each_call(rt: HostRuntime) -> Result<(), Fail> {
     let alloc = rt.alloc();
-    for (calls, (finish, row)) in FINISHES.iter().zip(&GENERATIONS).enumerate() {
-        for (image, generation) in row.iter().enumerate() {
+    for (calls, &(finish, generations)) in FINISHES.iter().enumerate() {
+        for (image, generation) in generations.iter().enumerate() {
             let lines = format!(in alloc;
                 "\
                 > 1 register 1 CCO\n< 1 ok 1\n\
@@ -193,18 +195,17 @@ fn a_finish_is_stopped_at_each_call(rt: HostRuntime) -> Result<(), Fail> {
 }
 
 // A step writes 256 items.
-#[test]
-fn steps_of_a_large_copy(rt: HostRuntime) -> Result<(), Fail> {
-    let alloc = rt.alloc();
-    let mut lines = String::new(alloc);
-    for id in 1..=600_u32 {
-        let line = format!(in alloc; "> register {id} C\n< ok {id}\n")?;
-        lines.push_str(line.as_str())?;
-    }
-    for left in [600, 344, 88, 0_u32] {
-        let line = format!(in alloc; "> compact\n< compacting {left}\n")?;
-        lines.push_str(line.as_str())?;
-    }
-    lines.push_str("> compact\n< compacted 1\n> compact\n< compacting 600\n")?;
-    check(&rt, alloc, "steps", MEM, lines.as_str())
-}
+pub(super) const MADE: &[Made] = &[(
+    "steps of a large copy",
+    MEM,
+    &[(b"register @ C\n", 1, 600), (b"compact\n", 1, 6)],
+    &[
+        (b"ok @\n", 1, 600),
+        (
+            b"compacting 600\ncompacting 344\ncompacting 88\ncompacting 0\n\
+            compacted 1\ncompacting 600\n",
+            1,
+            1,
+        ),
+    ],
+)];

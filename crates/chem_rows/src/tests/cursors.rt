@@ -1,7 +1,5 @@
 //! Commits, pins, pages and prunings.
-ghost use Rattle.std.specs.Prelude.{◌<◌};
-
-use super::{MEM, PLAIN, Script, answers};
+use super::{MEM, Made, Script, check};
 use std::alloc::{AllocError, Global};
 use std::test::Fail;
 
@@ -171,98 +169,85 @@ pub(super) const SCRIPTS: &[Script] = &[
     ),
 ];
 
-// A cursor at version 1 while its identifier is revised so often, each time with a pruning.
-fn held_long(alloc: Global, times: u32) -> Result<(String, String), AllocError> {
-    let mut script = String::from_str(alloc, "register 1 CO\nopen s CO\n")?;
-    let mut replies = String::from_str(alloc, "ok 1\nopened 1\n")?;
-    for time in 0..times {
-        script.push_str("revise 1 N\nprune\n")?;
-        let version = u64::from(time) + 2;
-        let dropped = u32::from(time > 0);
-        write!(replies, "ok {version}\npruned {dropped}\n")?;
-    }
-    let version = u64::from(times) + 1;
-    script.push_str("next s\nstats\nclose s\nprune\nstats\n")?;
-    replies.push_str("hit 1\nend at 1 tried 1 hits 1\n")?;
-    write!(
-        replies,
-        "stats version {version} live 1 withdrawn 0 kept 2 pins 1\nclosed\npruned 1\n"
-    )?;
-    write!(
-        replies,
-        "stats version {version} live 1 withdrawn 0 kept 1 pins 0\n"
-    )?;
-    Ok((script, replies))
-}
+pub(super) const MADE: &[Made] = &[
+    (
+        "a cursor at version 1 while its identifier is revised 200 times, each time with a pruning",
+        MEM,
+        &[
+            (b"register 1 CO\nopen s CO\n", 1, 1),
+            (b"revise 1 N\nprune\n", 1, 200),
+            (b"next s\nstats\nclose s\nprune\nstats\n", 1, 1),
+        ],
+        &[
+            (b"ok 1\nopened 1\nok 2\npruned 0\n", 1, 1),
+            (b"ok @\npruned 1\n", 3, 201),
+            (
+                b"hit 1\nend at 1 tried 1 hits 1\n\
+                stats version 201 live 1 withdrawn 0 kept 2 pins 1\nclosed\npruned 1\n\
+                stats version 201 live 1 withdrawn 0 kept 1 pins 0\n",
+                1,
+                1,
+            ),
+        ],
+    ),
+    (
+        "65 cursors where 64 may be open",
+        MEM,
+        &[
+            (b"register 1 C\n", 1, 1),
+            (b"open c@ C\n", 1, 65),
+            (b"search C\nclose c1\nopen c65 C\nnext zz\nstats\n", 1, 1),
+        ],
+        &[
+            (b"ok 1\n", 1, 1),
+            (b"opened 1\n", 1, 64),
+            (
+                b"refused pins\nrefused pins\nclosed\nopened 1\nrefused cursor\n\
+                stats version 1 live 1 withdrawn 0 kept 1 pins 64\n",
+                1,
+                1,
+            ),
+        ],
+    ),
+];
 
-// 65 cursors where 64 may be open.
-fn many_cursors(alloc: Global) -> Result<(String, String), AllocError> {
-    let mut script = String::from_str(alloc, "register 1 C\n")?;
-    let mut replies = String::from_str(alloc, "ok 1\n")?;
-    for number in 1..66u32 {
-        write!(script, "open c{number} C\n")?;
-        replies.push_str(if number < 65 {
-            "opened 1\n"
-        } else {
-            "refused pins\n"
-        })?;
+// Words, how many structures there are, and how many a page has.
+const PAGES: &[(&[&str], u32, u32)] = &[
+    (MEM, 257, 256),
+    (MEM, 256, 256),
+    (&["mem", "--page", "100"], 257, 100),
+    (&["mem", "--page", "7", "--workers", "16"], 257, 7),
+];
+
+// A cursor tells of more behind each page but the last.
+#[test]
+fn pages(rt: HostRuntime) -> Result<(), Fail> {
+    for &(words, count, page) in PAGES {
+        let lines = paged(rt.alloc(), count, page)?;
+        check(&rt, rt.alloc(), "pages", words, lines.as_str())?;
     }
-    script.push_str("search C\nclose c1\nopen c65 C\nnext zz\nstats\n")?;
-    replies.push_str("refused pins\nclosed\nopened 1\nrefused cursor\n")?;
-    replies.push_str("stats version 1 live 1 withdrawn 0 kept 1 pins 64\n")?;
-    Ok((script, replies))
+    Ok(())
 }
 
 // So many structures, and a cursor over pages of so many.
-fn paged(alloc: Global, count: u32, page: u32) -> Result<(String, String), AllocError>
-    requires { 0 < page }
-{
-    let mut script = String::new(alloc);
-    let mut replies = String::new(alloc);
-    for id in 1..count.saturating_add(1) {
-        write!(script, "register {id} C\n")?;
-        write!(replies, "ok {id}\n")?;
+fn paged(alloc: Global, count: u32, page: u32) -> Result<String, AllocError> {
+    let mut lines = String::new(alloc);
+    for id in 1..=count {
+        write!(lines, "> register {id} C\n< ok {id}\n")?;
     }
-    script.push_str("open s C\n")?;
-    write!(replies, "opened {count}\n")?;
-    for id in 1..count.saturating_add(1) {
-        if id % page == 1 % page {
-            script.push_str("next s\n")?;
+    write!(lines, "> open s C\n< opened {count}\n")?;
+    let mut left = 0u32;
+    for id in 1..=count {
+        if left == 0 {
+            lines.push_str("> next s\n")?;
+            left = page;
         }
-        write!(replies, "hit {id}\n")?;
-        if id == count {
-            write!(replies, "end at {count} tried {count} hits {count}\n")?;
-        } else if id % page == 0 {
-            replies.push_str("more\n")?;
+        left = left.saturating_sub(1);
+        write!(lines, "< hit {id}\n")?;
+        if left == 0 && id < count {
+            lines.push_str("< more\n")?;
         }
     }
-    Ok((script, replies))
-}
-
-#[test]
-fn long_scripts(rt: HostRuntime) -> Result<(), Fail> {
-    let alloc = rt.alloc();
-    let rows = [
-        (MEM, held_long(alloc, 200)?),
-        (MEM, many_cursors(alloc)?),
-        (MEM, paged(alloc, 257, 256)?),
-        (MEM, paged(alloc, 256, 256)?),
-        (&["mem", "--page", "100"], paged(alloc, 257, 100)?),
-        (
-            &["mem", "--page", "7", "--workers", "16"],
-            paged(alloc, 257, 7)?,
-        ),
-    ];
-    for (words, (script, replies)) in &rows {
-        answers(
-            &rt,
-            alloc,
-            words,
-            script.as_bytes(),
-            PLAIN,
-            0,
-            replies.as_bytes(),
-        )?;
-    }
-    Ok(())
+    write!(lines, "< end at {count} tried {count} hits {count}\n")?;
+    Ok(lines)
 }

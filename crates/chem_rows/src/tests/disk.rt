@@ -1,55 +1,39 @@
 //! `init` and `run` over disks in memory.
-use super::{Answer, ONE_COMMIT, PLAIN, call_on, put_by};
+use super::{ONE_COMMIT, PLAIN, call_on, disk_of, has_left, put_by, run, run_leaves};
 use disk_edge::{FileDisk, MemDisk};
 use std::alloc::{AllocError, Global};
 use std::fs;
-use std::process::Abort;
 use std::sync::Wait;
 use std::test::Fail;
 use std::thread::Threads;
 
-// `run` of a script over this disk.
-fn run<R: Threads + Wait + Sync>(
-    rt: &R,
-    alloc: Global,
-    a: MemDisk,
-    script: &str,
-) -> Result<Answer, AllocError> {
-    let disks = (a, MemDisk::new(alloc));
-    call_on(rt, alloc, &["run", "f"], script.as_bytes(), PLAIN, disks)
-}
-
-// `init` of this disk.
-fn init<R: Threads + Wait + Sync>(rt: &R, alloc: Global, a: MemDisk) -> Result<Answer, AllocError> {
-    let disks = (a, MemDisk::new(alloc));
-    call_on(rt, alloc, &["init", "f"], b"", PLAIN, disks)
-}
-
-// A disk that holds these bytes, synced.
-fn disk_of(alloc: Global, bytes: &[u8]) -> Result<MemDisk, AllocError> {
-    MemDisk::of(alloc, bytes.to_vec(alloc)?)
-}
-
-// Whether an answer has this status, these replies, these bytes on its first disk, and none on its second.
-fn has_left(answer: &Answer, status: u8, replies: &str, left: &[u8]) -> bool {
-    answer.status == status
-        && put_by(answer) == replies.as_bytes()
-        && answer.a.bytes() == left
-        && answer.b.bytes().is_empty()
-}
+// the command, its script, the status, the replies, and what is on the first disk then
+const USES: &[(&str, &str, u8, &str, &[u8])] = &[
+    ("init", "", 0, "", b"ZCHEMDB1\0"),
+    ("run", "register 1 CCO\n", 0, "ok 1\n", ONE_COMMIT),
+    (
+        "run",
+        "show 1\nregister 1 C\nsearch O\n",
+        0,
+        "record 1 version 1 smiles CCO\nrefused known\nhit 1\nend at 1 tried 1 hits 1\n",
+        ONE_COMMIT,
+    ),
+    ("init", "", 10, "", ONE_COMMIT),
+];
 
 #[test]
 fn a_store_is_made_and_used_and_used_again(rt: HostRuntime) -> Result<(), Fail> {
     let alloc = rt.alloc();
-    let made = init(&rt, alloc, MemDisk::new(alloc))?;
-    assert!(rt; has_left(&made, 0, "", b"ZCHEMDB1\0"));
-    let first = run(&rt, alloc, made.a, "register 1 CCO\n")?;
-    assert!(rt; has_left(&first, 0, "ok 1\n", ONE_COMMIT));
-    let second = run(&rt, alloc, first.a, "show 1\nregister 1 C\nsearch O\n")?;
-    let replies = "record 1 version 1 smiles CCO\nrefused known\nhit 1\nend at 1 tried 1 hits 1\n";
-    assert!(rt; has_left(&second, 0, replies, ONE_COMMIT));
-    let again = init(&rt, alloc, second.a)?;
-    assert!(rt; has_left(&again, 10, "", ONE_COMMIT));
+    let mut disk = MemDisk::new(alloc);
+    for &(command, script, status, replies, left) in USES {
+        let disks = (disk, MemDisk::new(alloc));
+        let answer = call_on(&rt, alloc, &[command, "f"], script.as_bytes(), PLAIN, disks)?;
+        assert!(rt;
+            answer.status == status && has_left(&answer, replies, (left, b"")),
+            "at {command} {script:?}"
+        );
+        disk = answer.a;
+    }
     Ok(())
 }
 
@@ -78,17 +62,6 @@ const BYTES: &[(&[u8], u8, u64, &str)] = &[
         "",
     ),
 ];
-
-#[test]
-fn bytes_that_are_run(rt: HostRuntime) -> Result<(), Fail> {
-    let alloc = rt.alloc();
-    for &(bytes, status, place, put) in BYTES {
-        let answer = run(&rt, alloc, disk_of(alloc, bytes)?, "stats\n")?;
-        assert_eq!(rt; answer.place, place, "at {bytes:?}");
-        assert!(rt; has_left(&answer, status, put, bytes), "at {bytes:?}");
-    }
-    Ok(())
-}
 
 const ABSENT: &str = "refused absent\nstats version 0 live 0 withdrawn 0 kept 0 pins 0\n";
 
@@ -133,13 +106,22 @@ const BY_ANOTHER_HAND: &[(&[u8], u8, u64, &str)] = &[
     ),
 ];
 
+// Scripts, and what they are run over.
+const RUNS: &[(&str, &[(&[u8], u8, u64, &str)])] = &[
+    ("stats\n", BYTES),
+    ("show 1\nstats\n", BY_ANOTHER_HAND),
+];
+
 #[test]
-fn stores_by_another_hand(rt: HostRuntime) -> Result<(), Fail> {
-    let alloc = rt.alloc();
-    for &(bytes, status, place, put) in BY_ANOTHER_HAND {
-        let answer = run(&rt, alloc, disk_of(alloc, bytes)?, "show 1\nstats\n")?;
-        assert_eq!(rt; answer.place, place, "at {bytes:?}");
-        assert!(rt; has_left(&answer, status, put, bytes), "at {bytes:?}");
+fn bytes_that_are_run(rt: HostRuntime) -> Result<(), Fail> {
+    for &(script, rows) in RUNS {
+        for &(bytes, status, place, put) in rows {
+            let disks = (bytes, b"".as_slice());
+            assert!(rt;
+                run_leaves(&rt, rt.alloc(), disks, script, (status, place), put, disks)?,
+                "at {bytes:?}"
+            );
+        }
     }
     Ok(())
 }
@@ -155,55 +137,58 @@ fn acknowledged(replies: &[u8]) -> usize {
     count
 }
 
-// The version of the store on a disk.
-fn version_of<R: Abort + Threads + Wait + Sync>(
+// The version of the store on a disk, where there is one.
+fn version_of<R: Threads + Wait + Sync>(
     rt: &R,
     alloc: Global,
     disk: MemDisk,
-) -> Result<usize, Fail> {
-    let answer = run(rt, alloc, disk, "stats\n")?;
-    assert_eq!(rt; answer.status, 0);
+) -> Result<Option<usize>, AllocError> {
+    let answer = run(rt, alloc, "stats\n", (disk, MemDisk::new(alloc)))?;
+    if answer.status != 0 {
+        return Ok(None);
+    }
     let digit = put_by(&answer).get(14).copied().unwrap_or(0);
-    Ok(digit.saturating_sub(b'0') as usize)
+    Ok(Some(digit.saturating_sub(b'0') as usize))
 }
 
-// A disk whose call of this number fails: what each image then loads to is the commits that were acknowledged, and at
-// most one more.
-fn fails_once<R: Abort + Threads + Wait + Sync>(
+// Whether three registrations over a disk whose call of this number fails leave what they should: the image of this
+// number loads to the commits that were acknowledged, and at most one more.
+fn is_kept<R: Threads + Wait + Sync>(
     rt: &R,
     alloc: Global,
     call: u64,
-) -> Result<(), Fail> {
+    image: u32,
+) -> Result<bool, AllocError> {
+    let mut disk = disk_of(alloc, b"ZCHEMDB1\0")?;
+    disk.fail_once(call);
+    let disks = (disk, MemDisk::new(alloc));
     let script = "register 1 C\nregister 2 N\nregister 3 O\n";
-    for choice in 0..6u32 {
-        let mut disk = disk_of(alloc, b"ZCHEMDB1\0")?;
-        disk.fail_once(call);
-        let answer = run(rt, alloc, disk, script)?;
-        if answer.status == 5 {
-            assert!(rt; has_left(&answer, 5, "", b"ZCHEMDB1\0"), "at {call}");
-            continue;
-        }
-        let sure = acknowledged(put_by(&answer));
-        assert!(rt; answer.status == 0 && sure >= 2, "at {call}");
-        let version = version_of(rt, alloc, answer.a.image(choice))?;
-        assert!(rt;
-            version == sure || version == sure.saturating_add(1),
-            "at {call}"
-        );
+    let answer = run(rt, alloc, script, disks)?;
+    if answer.status == 5 {
+        return Ok(has_left(&answer, "", (b"ZCHEMDB1\0", b"")));
     }
-    Ok(())
+    let sure = acknowledged(put_by(&answer));
+    let is_done = answer.status == 0 && sure >= 2;
+    let version = version_of(rt, alloc, answer.a.image(image))?;
+    Ok(is_done && (version == Some(sure) || version == Some(sure.saturating_add(1))))
 }
 
 #[test]
 fn each_call_of_the_disk_fails_in_turn(rt: HostRuntime) -> Result<(), Fail> {
-    let alloc = rt.alloc();
     for call in 1..20u64 {
-        fails_once(&rt, alloc, call)?;
+        for image in 0..6u32 {
+            assert!(rt;
+                is_kept(&rt, rt.alloc(), call, image)?,
+                "at {call}, image {image}"
+            );
+        }
     }
+    let alloc = rt.alloc();
     let mut disk = MemDisk::new(alloc);
     disk.fail_once(1);
-    let made = init(&rt, alloc, disk)?;
-    assert_eq!(rt; made.status, 5);
+    let disks = (disk, MemDisk::new(alloc));
+    let made = call_on(&rt, alloc, &["init", "f"], b"", PLAIN, disks)?;
+    assert!(rt; made.status == 5);
     Ok(())
 }
 
@@ -236,12 +221,15 @@ fn a_store_in_two_files(rt: HostRuntime) -> Result<(), Fail> {
         );
         let words = [command, path];
         let answer = call_on(&rt, alloc, &words, script.as_bytes(), PLAIN, disks)?;
-        assert_eq!(rt; answer.status, status, "at {command} {script:?}");
-        assert_eq!(rt; put_by(&answer), put.as_bytes(), "at {command} {script:?}");
+        assert!(rt;
+            answer.status == status && put_by(&answer) == put.as_bytes(),
+            "at {command} {script:?}"
+        );
     }
-    assert_eq!(rt; fs::read(&rt, path)?.as_slice(), ONE_COMMIT);
-    assert_eq!(rt; fs::read(&rt, second)?.len(), 0);
+    let is_first = fs::read(&rt, path)?.as_slice() == ONE_COMMIT;
+    let is_second = fs::read(&rt, second)?.is_empty();
     fs::remove_file(&rt, path)?;
     fs::remove_file(&rt, second)?;
+    assert!(rt; is_first && is_second);
     Ok(())
 }

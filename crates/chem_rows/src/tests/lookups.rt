@@ -1,6 +1,5 @@
 //! Lookups: what is the same structure, and what is most similar.
-use super::{MEM, Script, replies_are};
-use std::test::Fail;
+use super::{MEM, Made, Script};
 
 const ETHANOL: &str = "\
         > register 1 OCC\n\
@@ -195,23 +194,28 @@ pub(super) const SCRIPTS: &[Script] = &[
     ),
 ];
 
-// A lookup takes a pin, and 64 are held.
-#[test]
-fn no_pin_is_free_for_a_lookup(rt: HostRuntime) -> Result<(), Fail> {
-    let alloc = rt.alloc();
-    let mut script = String::from_str(alloc, "register 1 C\n")?;
-    let mut replies = String::from_str(alloc, "ok 1\n")?;
-    for number in 0..64u32 {
-        write!(script, "open s{number} C\n")?;
-        replies.push_str("opened 1\n")?;
-    }
-    script.push_str(
-        "same C\nsame C(\nregister-new 1 C\nregister-new 2 CO\nsimilar 0 1 1 C\n\
-        close s7\nsame C\nstats\n",
-    )?;
-    replies.push_str(
-        "refused pins\nrefused smiles syntax\nrefused pins\nrefused pins\nrefused pins\n\
-        closed\nhit 1\nend at 1 tried 1 hits 1\nstats version 1 live 1 withdrawn 0 kept 1 pins 63\n",
-    )?;
-    replies_are(&rt, alloc, &script, &replies)
-}
+pub(super) const MADE: &[Made] = &[(
+    "a lookup takes a pin, and 64 are held",
+    MEM,
+    &[
+        (b"register 1 C\n", 1, 1),
+        (b"open s@ C\n", 0, 63),
+        (
+            b"same C\nsame C(\nregister-new 1 C\nregister-new 2 CO\nsimilar 0 1 1 C\n\
+            close s7\nsame C\nstats\n",
+            1,
+            1,
+        ),
+    ],
+    &[
+        (b"ok 1\n", 1, 1),
+        (b"opened 1\n", 0, 63),
+        (
+            b"refused pins\nrefused smiles syntax\nrefused pins\nrefused pins\nrefused pins\n\
+            closed\nhit 1\nend at 1 tried 1 hits 1\n\
+            stats version 1 live 1 withdrawn 0 kept 1 pins 63\n",
+            1,
+            1,
+        ),
+    ],
+)];

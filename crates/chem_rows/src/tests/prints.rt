@@ -3,24 +3,16 @@ use chem_core::Print;
 use mol_finish::{Format, structure};
 use path_print::{need, print};
 use smarts_parse::parse;
-use std::alloc::Global;
-use std::process::Abort;
 use std::test::Fail;
 
-fn print_of(alloc: Global, smiles: &str) -> Result<Print, Fail> {
-    Ok(print(&structure(alloc, Format::Smiles, smiles.as_bytes())?))
-}
-
-fn need_of(alloc: Global, smarts: &str) -> Result<Print, Fail> {
-    Ok(need(&parse(alloc, smarts.as_bytes())?))
-}
-
-// The print has these bits and no others.
-fn assert_bits(rt: &impl Abort, text: &str, print: &Print, bits: &[u16]) {
-    assert_eq!(rt; print.count() as usize, bits.len(), "{text}");
+// Whether the print has these bits and no others.
+fn has(print: &Print, bits: &[u16]) -> bool {
     for bit in bits {
-        assert!(rt; print.has(*bit), "{text}, bit {bit}");
+        if !print.has(*bit) {
+            return false;
+        }
     }
+    print.count() as usize == bits.len()
 }
 
 const STRUCTURES: &[(&str, &[u16])] = &[
@@ -33,7 +25,8 @@ const STRUCTURES: &[(&str, &[u16])] = &[
 #[test]
 fn bits_of_structures(rt: HostRuntime) -> Result<(), Fail> {
     for &(smiles, bits) in STRUCTURES {
-        assert_bits(&rt, smiles, &print_of(rt.alloc(), smiles)?, bits);
+        let print = print(&structure(rt.alloc(), Format::Smiles, smiles.as_bytes())?);
+        assert!(rt; has(&print, bits), "{smiles}");
     }
     Ok(())
 }
@@ -50,7 +43,8 @@ const PATTERNS: &[(&str, &[u16])] = &[
 #[test]
 fn bits_that_patterns_need(rt: HostRuntime) -> Result<(), Fail> {
     for &(smarts, bits) in PATTERNS {
-        assert_bits(&rt, smarts, &need_of(rt.alloc(), smarts)?, bits);
+        let need = need(&parse(rt.alloc(), smarts.as_bytes())?);
+        assert!(rt; has(&need, bits), "{smarts}");
     }
     Ok(())
 }

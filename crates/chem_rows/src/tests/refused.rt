@@ -1,8 +1,5 @@
 //! Lines that are refused, and those behind them.
-ghost use Rattle.std.specs.Prelude.{◌<◌};
-
-use super::{MEM, PLAIN, Script, Ways, answers};
-use std::alloc::{AllocError, Global};
+use super::{MEM, Made, Piece, Script, Ways, answers, made};
 use std::test::Fail;
 
 pub(super) const SCRIPTS: &[Script] = &[(
@@ -92,118 +89,112 @@ pub(super) const SCRIPTS: &[Script] = &[(
         ",
 )];
 
-// So many bytes of a letter behind words.
-fn push_long(script: &mut Vec<u8>, words: &[u8], letter: u8, count: u32) -> Result<(), AllocError> {
-    script.extend_from_slice(words)?;
-    for _ in 0..count {
-        script.push(letter)?;
-    }
-    script.push(b'\n')?;
-    Ok(())
-}
+pub(super) const MADE: &[Made] = &[(
+    "lines that nest as deep as they are long",
+    MEM,
+    &[
+        (b"register 1 ", 1, 1),
+        (b"C(", 1, 21_841),
+        (b"C", 1, 1),
+        (b")", 1, 21_841),
+        (b"\n", 1, 1),
+        (b"register 1 ", 1, 1),
+        (b"C(", 1, 257),
+        (b"C", 1, 1),
+        (b")", 1, 257),
+        (b"\n", 1, 1),
+        (b"register 1 ", 1, 1),
+        (b"C(", 1, 256),
+        (b"C", 1, 1),
+        (b")", 1, 256),
+        (b"\n", 1, 1),
+        (b"register 2 ", 1, 1),
+        (b"C(", 1, 32_762),
+        (b"C\n", 1, 1),
+        (b"search ", 1, 1),
+        (b"[$(", 1, 819),
+        (b"C", 1, 1),
+        (b")]", 1, 819),
+        (b"\n", 1, 1),
+        (b"search ", 1, 1),
+        (b"[$(", 1, 9),
+        (b"C", 1, 1),
+        (b")]", 1, 9),
+        (b"\n", 1, 1),
+        (b"search ", 1, 1),
+        (b"[$(", 1, 8),
+        (b"C", 1, 1),
+        (b")]", 1, 8),
+        (b"\n", 1, 1),
+        (b"search ", 1, 1),
+        (b"[$(", 1, 1_365),
+        (b"C\n", 1, 1),
+        (b"search ", 1, 1),
+        (b"C(", 1, 1_365),
+        (b"C", 1, 1),
+        (b")", 1, 1_365),
+        (b"\n", 1, 1),
+        (b"search ", 1, 1),
+        (b"C(", 1, 255),
+        (b"C", 1, 1),
+        (b")", 1, 255),
+        (b"\n", 1, 1),
+        (b"search ", 1, 1),
+        (b"(", 1, 4_095),
+        (b"C\n", 1, 1),
+    ],
+    &[(
+        b"refused smiles limit\nrefused smiles limit\nok 1\nrefused smiles syntax\n\
+                refused smarts limit\nrefused smarts limit\nhit 1\nend at 1 tried 1 hits 1\n\
+                refused smarts syntax\nrefused smarts limit\nhit 1\nend at 1 tried 1 hits 1\n\
+                refused smarts syntax\n",
+        1,
+        1,
+    )],
+)];
 
 // Lines of the most bytes and of more: alone, in a molfile, and in the molfile of a line that is refused for itself.
 // What begins `M  END` does not end a molfile where it is too long.
-fn long_lines(alloc: Global) -> Result<Vec<u8>, AllocError> {
-    let mut script = Vec::new(alloc);
-    push_long(&mut script, b"", b'x', 65_537)?;
-    push_long(&mut script, b"register 1 ", b'C', 65_525)?;
-    push_long(&mut script, b"register 1 ", b'C', 1000)?;
-    push_long(&mut script, b"register 1 ", b'C', 999)?;
-    push_long(&mut script, b"search ", b'C', 257)?;
-    push_long(&mut script, b"search ", b'C', 256)?;
-    push_long(&mut script, b"register-mol 1\n\n", b'x', 65_537)?;
-    script.extend_from_slice(b"register 2 C\nM  END\n")?;
-    push_long(&mut script, b"revise-mol 01\nM  END", b'x', 65_531)?;
-    script.extend_from_slice(b"register 2 C\nM  END\nregister 1 \xff\nsearch \xff")?;
-    Ok(script)
-}
+const LONG_LINES: &[Piece] = &[
+    (b"x", 1, 65_537),
+    (b"\nregister 1 ", 1, 1),
+    (b"C", 1, 65_525),
+    (b"\nregister 1 ", 1, 1),
+    (b"C", 1, 1_000),
+    (b"\nregister 1 ", 1, 1),
+    (b"C", 1, 999),
+    (b"\nsearch ", 1, 1),
+    (b"C", 1, 257),
+    (b"\nsearch ", 1, 1),
+    (b"C", 1, 256),
+    (b"\nregister-mol 1\n\n", 1, 1),
+    (b"x", 1, 65_537),
+    (b"\nregister 2 C\nM  END\nrevise-mol 01\nM  END", 1, 1),
+    (b"x", 1, 65_531),
+    (
+        b"\nregister 2 C\nM  END\nregister 1 \xff\nsearch \xff",
+        1,
+        1,
+    ),
+];
+
+const LONG_REPLIES: &[u8] =
+    b"refused long\nrefused smiles limit\nrefused smiles limit\nok 1\nrefused smarts limit\n\
+    hit 1\nend at 1 tried 1 hits 1\nrefused long\nrefused long\nrefused smiles syntax\nrefused smarts syntax\n";
+
+// How many bytes a take gives at most.
+const TAKES: &[usize] = &[1, 7, 65_536];
 
 #[test]
 fn long_lines_and_bytes_that_are_no_text(rt: HostRuntime) -> Result<(), Fail> {
-    let alloc = rt.alloc();
-    let script = long_lines(alloc)?;
-    let replies =
-        "refused long\nrefused smiles limit\nrefused smiles limit\nok 1\nrefused smarts limit\n\
-        hit 1\nend at 1 tried 1 hits 1\nrefused long\nrefused long\nrefused smiles syntax\nrefused smarts syntax\n";
-    for piece in [1usize, 7, 65_536] {
+    let script = made(rt.alloc(), LONG_LINES)?;
+    for &piece in TAKES {
         let ways = Ways {
-            piece,
+            piece: piece.max(1),
             takes: &[],
             puts: &[],
         };
-        answers(&rt, alloc, MEM, &script, ways, 0, replies.as_bytes())?;
+        answers(&rt, rt.alloc(), MEM, &script, ways, 0, LONG_REPLIES)?;
     }
     Ok(())
-}
-
-// So many openings, a middle, and as many closings behind words.
-fn push_nest(
-    script: &mut Vec<u8>,
-    words: &[u8],
-    opening: &[u8],
-    closing: &[u8],
-    count: u32,
-) -> Result<(), AllocError> {
-    script.extend_from_slice(words)?;
-    for _ in 0..count {
-        script.extend_from_slice(opening)?;
-    }
-    script.push(b'C')?;
-    for _ in 0..count {
-        script.extend_from_slice(closing)?;
-    }
-    script.push(b'\n')?;
-    Ok(())
-}
-
-// the words before, what opens and closes a level, how many there are, and the reply
-const NESTS: &[(&[u8], &[u8], &[u8], u32, &str)] = &[
-    (
-        b"register 1 ",
-        b"C(",
-        b")",
-        21_841,
-        "refused smiles limit\n",
-    ),
-    (b"register 1 ", b"C(", b")", 257, "refused smiles limit\n"),
-    (b"register 1 ", b"C(", b")", 256, "ok 1\n"),
-    (
-        b"register 2 ",
-        b"C(",
-        b"",
-        32_762,
-        "refused smiles syntax\n",
-    ),
-    (b"search ", b"[$(", b")]", 819, "refused smarts limit\n"),
-    (b"search ", b"[$(", b")]", 9, "refused smarts limit\n"),
-    (
-        b"search ",
-        b"[$(",
-        b")]",
-        8,
-        "hit 1\nend at 1 tried 1 hits 1\n",
-    ),
-    (b"search ", b"[$(", b"", 1_365, "refused smarts syntax\n"),
-    (b"search ", b"C(", b")", 1_365, "refused smarts limit\n"),
-    (
-        b"search ",
-        b"C(",
-        b")",
-        255,
-        "hit 1\nend at 1 tried 1 hits 1\n",
-    ),
-    (b"search ", b"(", b"", 4_095, "refused smarts syntax\n"),
-];
-
-#[test]
-fn lines_that_nest_as_deep_as_they_are_long(rt: HostRuntime) -> Result<(), Fail> {
-    let alloc = rt.alloc();
-    let mut script = Vec::new(alloc);
-    let mut replies = String::new(alloc);
-    for &(words, opening, closing, count, reply) in NESTS {
-        push_nest(&mut script, words, opening, closing, count)?;
-        replies.push_str(reply)?;
-    }
-    answers(&rt, alloc, MEM, &script, PLAIN, 0, replies.as_bytes())
 }

@@ -1,6 +1,5 @@
 //! Records of SD files, and their data items.
-use super::{MEM, Script, replies_are};
-use std::alloc::{AllocError, Global};
+use super::{MEM, Made, PLAIN, Piece, Script, answers, made};
 use std::test::Fail;
 
 pub(super) const SCRIPTS: &[Script] = &[
@@ -176,91 +175,98 @@ pub(super) const SCRIPTS: &[Script] = &[
 ];
 
 // A molfile of one atom, by its header line.
-const OXYGEN: &str = "
+const OXYGEN: &[u8] = b"
 
 
   1  0  0  0  0  0  0  0  0  0999 V2000
     0.0000    0.0000    0.0000 O   0  0  0  0  0  0
 ";
 
-// Lines that end with CR and LF, a line that ends no record, and data with a line of one blank.
-#[test]
-fn a_record_with_data_items_in_lines_with_cr(rt: HostRuntime) -> Result<(), Fail> {
-    let alloc = rt.alloc();
-    let script = "register-sd 999999999 1\r\n\
-        \r\n\r\n\r\n  1  0  0     0  0              1 V2000\r\n\
-        \x20   0.0000    0.0000    0.0000 O   0  0\r\nM  END\r\n\
-        >  <A> (1)\r\none\r\n \r\ntwo\r\n\r\n$$$$ \r\n> <>\r\n\r\n$$$$\r\n\
-        data 999999999 A\ndata 999999999 \ndata 999999999 B\ndata 999999999\ndata 0 A\n";
-    let replies = "ok 1\ndata 999999999 3\none\n \ntwo\ndata 999999999 0\n\
-        refused data\nrefused syntax\nrefused id\n";
-    replies_are(&rt, alloc, script, replies)
-}
+pub(super) const MADE: &[Made] = &[
+    // Lines that end with CR and LF, a line that ends no record, and data with a line of one blank.
+    (
+        "a record with data items in lines with CR",
+        MEM,
+        &[(
+            b"register-sd 999999999 1\r\n\
+            \r\n\r\n\r\n  1  0  0     0  0              1 V2000\r\n\
+            \x20   0.0000    0.0000    0.0000 O   0  0\r\nM  END\r\n\
+            >  <A> (1)\r\none\r\n \r\ntwo\r\n\r\n$$$$ \r\n> <>\r\n\r\n$$$$\r\n\
+            data 999999999 A\ndata 999999999 \ndata 999999999 B\ndata 999999999\ndata 0 A\n",
+            1,
+            1,
+        )],
+        &[(
+            b"ok 1\ndata 999999999 3\none\n \ntwo\ndata 999999999 0\n\
+            refused data\nrefused syntax\nrefused id\n",
+            1,
+            1,
+        )],
+    ),
+    // A record with a line that is too long is refused alone, and a text that is too big.
+    (
+        "records that are too long leave the others",
+        MEM,
+        &[
+            (b"register-sd 1 5\n", 1, 1),
+            (OXYGEN, 1, 1),
+            (b"M  END\n$$$$\n", 1, 1),
+            (OXYGEN, 1, 1),
+            (b"M  END\n", 1, 1),
+            (b"x", 1, 65_537),
+            (b"\n$$$$\n", 1, 1),
+            (OXYGEN, 1, 1),
+            (b"M  END\n", 1, 1),
+            (b"x\n", 1, 131_072),
+            (b"$$$$\n", 1, 1),
+            (b"$", 1, 65_540),
+            (b"\n$$$$\n", 1, 1),
+            (OXYGEN, 1, 1),
+            (b"M  END\n$$$$\nstats\n", 1, 1),
+        ],
+        &[(
+            b"ok 1\nrefused long\nrefused molfile limit\nrefused long\nok 2\n\
+            stats version 2 live 2 withdrawn 0 kept 2 pins 0\n",
+            1,
+            1,
+        )],
+    ),
+];
 
-// A record with a line that is too long is refused alone, and a text that is too big.
-#[test]
-fn records_that_are_too_long_leave_the_others(rt: HostRuntime) -> Result<(), Fail> {
-    let alloc = rt.alloc();
-    let pieces = [
-        ("register-sd 1 5\n", 1),
-        (OXYGEN, 1),
-        ("M  END\n$$$$\n", 1),
-        (OXYGEN, 1),
-        ("M  END\n", 1),
-        ("x", 65_537),
-        ("\n$$$$\n", 1),
-        (OXYGEN, 1),
-        ("M  END\n", 1),
-        ("x\n", 131_072),
-        ("$$$$\n", 1),
-        ("$", 65_540),
-        ("\n$$$$\n", 1),
-        (OXYGEN, 1),
-        ("M  END\n$$$$\nstats\n", 1),
-    ];
-    let script = joined(alloc, &pieces)?;
-    let replies = "ok 1\nrefused long\nrefused molfile limit\nrefused long\nok 2\n\
-        stats version 2 live 2 withdrawn 0 kept 2 pins 0\n";
-    replies_are(&rt, alloc, &script, replies)
-}
+// A record with a line that is too long.
+const LONG: &[Piece] = &[(b"0123456789abcdef", 1, 4_097), (b"\n$$$$\n", 1, 1)];
+
+// Pieces, and how often each stands.
+const TOO_MANY: &[(&[Piece], u32)] = &[
+    (&[(b"register-sd 1 258\n", 1, 1)], 1),
+    (LONG, 255),
+    (&[(b"$$$$\n", 1, 1)], 1),
+    (LONG, 1),
+    (&[(b"$$$$\nstats\n", 1, 1)], 1),
+];
+
+// The replies to them: the last two records are not read.
+const TOO_MANY_REPLIES: &[Piece] = &[
+    (b"refused long\n", 1, 255),
+    (
+        b"refused molfile cut\nrefused sd limit\nrefused sd limit\n\
+        stats version 0 live 0 withdrawn 0 kept 0 pins 0\n",
+        1,
+        1,
+    ),
+];
 
 // A record with a line that is too long counts 262,145 bytes, and 256 of these are more than 67,108,864.
 #[test]
 fn texts_of_too_many_bytes_are_refused_from_one_on(rt: HostRuntime) -> Result<(), Fail> {
     let alloc = rt.alloc();
-    let long = joined(alloc, &[("0123456789abcdef", 4097), ("\n$$$$\n", 1)])?;
-    let lines = [
-        ("register-sd 1 258\n", 1),
-        (long.as_str(), 255),
-        ("$$$$\n", 1),
-        (long.as_str(), 1),
-        ("$$$$\nstats\n", 1),
-    ];
-    let script = joined(alloc, &lines)?;
-    let lines = [
-        ("refused long\n", 255),
-        (
-            "refused molfile cut\nrefused sd limit\nrefused sd limit\n",
-            1,
-        ),
-        ("stats version 0 live 0 withdrawn 0 kept 0 pins 0\n", 1),
-    ];
-    let replies = joined(alloc, &lines)?;
-    replies_are(&rt, alloc, &script, &replies)
-}
-
-// A text of pieces, each so many times.
-fn joined(alloc: Global, pieces: &[(&str, usize)]) -> Result<String, AllocError> {
-    let mut text = String::new(alloc);
-    for (piece, times) in pieces {
-        push_many(&mut text, piece, *times)?;
+    let mut script = Vec::new(alloc);
+    for &(pieces, times) in TOO_MANY {
+        let text = made(alloc, pieces)?;
+        for _ in 0..times {
+            script.extend_from_slice(&text)?;
+        }
     }
-    Ok(text)
-}
-
-fn push_many(text: &mut String, piece: &str, times: usize) -> Result<(), AllocError> {
-    for _ in 0..times {
-        text.push_str(piece)?;
-    }
-    Ok(())
+    let replies = made(alloc, TOO_MANY_REPLIES)?;
+    answers(&rt, alloc, MEM, &script, PLAIN, 0, &replies)
 }

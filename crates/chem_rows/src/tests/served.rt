@@ -138,13 +138,13 @@ fn end(
     })
 }
 
-// Serves ends over an empty store. Answers them, and how many commits the store has then.
+// Serves ends over an empty store. Answers them, and how many commits the store has then, where no wait gave up.
 fn serve<R: Threads + Wait + Sync>(
     rt: &R,
     alloc: Global,
     ends: Vec<End<Asker, Teller>>,
     meeting: &Meeting,
-) -> Result<(Vec<End<Asker, Teller>>, u32), Fail> {
+) -> Result<(Vec<End<Asker, Teller>>, Option<u32>), Fail> {
     if ends.is_empty() || ends.len() > MOST_ENDS {
         return Err(Fail::new("not so many ends"));
     }
@@ -161,7 +161,8 @@ fn serve<R: Threads + Wait + Sync>(
     let (ends, answer) = serve_ends(rt, alloc, &hall, &mut pass, ends, &settings, meeting);
     let commits = hall.close(pass).version();
     answer?;
-    Ok((ends, commits))
+    let gave_up = meeting.gave_up.load(Ordering::SeqCst);
+    Ok((ends, (gave_up == 0).then_some(commits)))
 }
 
 // An end that registers methane under identifiers from a first to a last, and then shows the last. It gives its second
@@ -229,92 +230,126 @@ fn identifiers(number: u16, each: u16) -> (u32, u32) {
     (first, first + u32::from(each.saturating_sub(1)))
 }
 
+// Whether so many ends that register so many identifiers each are served at the same time, with so many commits.
+fn serves<R: Threads + Wait + Sync>(
+    rt: &R,
+    alloc: Global,
+    count: u16,
+    each: u16,
+    commits: u32,
+) -> Result<bool, Fail> {
+    let meeting = Arc::new(alloc, Meeting::new(0))?;
+    let mut ends = Vec::new(alloc);
+    for number in 0..count {
+        let (first, last) = identifiers(number, each);
+        ends.push(registering(alloc, first, last, count, &meeting)?)?;
+    }
+    let (ends, version) = serve(rt, alloc, ends, &meeting)?;
+    let mut holds = version == Some(commits);
+    for (number, end) in (0..count).zip(&ends) {
+        let (_, last) = identifiers(number, each);
+        holds &= has_registered(alloc, end, each, last)?;
+    }
+    Ok(holds)
+}
+
+// How many ends there are, how many identifiers each has, and how many commits there are then.
+const ENDS: &[(u16, u16, u32)] = &[(2, 100, 200), (3, 10, 30), (16, 2, 32)];
+
 // Each end waits after its first line until all have been answered.
 #[test]
 fn ends_are_served_at_the_same_time(rt: HostRuntime) -> Result<(), Fail> {
-    let alloc = rt.alloc();
-    for (count, each, commits) in [(2, 100, 200), (3, 10, 30), (16, 2, 32)] {
-        let meeting = Arc::new(alloc, Meeting::new(0))?;
-        let mut ends = Vec::new(alloc);
-        for number in 0..count {
-            let (first, last) = identifiers(number, each);
-            ends.push(registering(alloc, first, last, count, &meeting)?)?;
-        }
-        let (ends, version) = serve(&rt, alloc, ends, &meeting)?;
-        assert_eq!(rt; meeting.gave_up.load(Ordering::SeqCst), 0, "{count} ends");
-        assert_eq!(rt; version, commits, "{count} ends");
-        for (number, end) in (0..count).zip(&ends) {
-            let (_, last) = identifiers(number, each);
-            assert!(rt;
-                has_registered(alloc, end, each, last)?,
-                "{number} of {count} ends"
-            );
-        }
+    for &(count, each, commits) in ENDS {
+        assert!(rt;
+            serves(&rt, rt.alloc(), count, each, commits)?,
+            "{count} ends"
+        );
     }
     Ok(())
 }
 
-// A search that began to match is held until another end has committed: it holds no turn. A cursor lists what was
-// there at its opening, though another end has revised that and pruned.
-#[test]
-fn an_end_sees_its_version_while_another_commits(rt: HostRuntime) -> Result<(), Fail> {
-    let alloc = rt.alloc();
-    let rows = [
-        (
-            4,
-            [
+// How much has to have happened before a search goes on, and the ends with their replies.
+type Served = (u32, &'static [(Script<'static>, &'static str)]);
+
+const BESIDE: &[Served] = &[
+    (
+        4,
+        &[
+            (
                 Script {
                     lines_after: 0,
                     lines: "register 10 C\n",
                     rest_after: 2,
                     rest: "search C\n",
                 },
+                "ok 1\nhit 10\nhit 20\nend at 2 tried 2 hits 2\n",
+            ),
+            (
                 Script {
                     lines_after: 1,
                     lines: "register 20 C\n",
                     rest_after: 3,
                     rest: "register 30 C\n",
                 },
-            ],
-            [
-                "ok 1\nhit 10\nhit 20\nend at 2 tried 2 hits 2\n",
                 "ok 2\nok 3\n",
-            ],
-        ),
-        (
-            0,
-            [
+            ),
+        ],
+    ),
+    (
+        0,
+        &[
+            (
                 Script {
                     lines_after: 0,
                     lines: "register 10 C\nopen s C\n",
                     rest_after: 4,
                     rest: "next s\nshow 10\nclose s\n",
                 },
+                "ok 1\nopened 1\nhit 10\nend at 1 tried 1 hits 1\n\
+                    record 10 version 2 smiles N\nclosed\n",
+            ),
+            (
                 Script {
                     lines_after: 2,
                     lines: "revise 10 N\nprune\n",
                     rest_after: 8,
                     rest: "prune\n",
                 },
-            ],
-            [
-                "ok 1\nopened 1\nhit 10\nend at 1 tried 1 hits 1\nrecord 10 version 2 smiles N\nclosed\n",
                 "ok 2\npruned 0\npruned 1\n",
-            ],
-        ),
-    ];
-    for (search_until, scripts, replies) in rows {
-        let meeting = Arc::new(alloc, Meeting::new(search_until))?;
-        let mut ends = Vec::new(alloc);
-        for script in scripts {
-            ends.push(end(alloc, script, &meeting)?)?;
-        }
-        let (ends, _) = serve(&rt, alloc, ends, &meeting)?;
-        assert_eq!(rt; meeting.gave_up.load(Ordering::SeqCst), 0);
-        for (end, text) in ends.iter().zip(replies) {
-            assert_eq!(rt; end.sink.text.bytes(), text.as_bytes(), "{text}");
-            assert_eq!(rt; end.status, DONE, "{text}");
-        }
+            ),
+        ],
+    ),
+];
+
+// Whether ends that are served have their replies, and are done.
+fn replies_are<R: Threads + Wait + Sync>(
+    rt: &R,
+    alloc: Global,
+    search_until: u32,
+    rows: &[(Script<'static>, &str)],
+) -> Result<bool, Fail> {
+    let meeting = Arc::new(alloc, Meeting::new(search_until))?;
+    let mut ends = Vec::new(alloc);
+    for (script, _) in rows {
+        ends.push(end(alloc, *script, &meeting)?)?;
+    }
+    let (ends, version) = serve(rt, alloc, ends, &meeting)?;
+    let mut holds = version.is_some();
+    for (end, (_, replies)) in ends.iter().zip(rows) {
+        holds &= end.status == DONE && end.sink.text.bytes() == replies.as_bytes();
+    }
+    Ok(holds)
+}
+
+// A search that began to match is held until another end has committed: it holds no turn. A cursor lists what was
+// there at its opening, though another end has revised that and pruned.
+#[test]
+fn an_end_sees_its_version_while_another_commits(rt: HostRuntime) -> Result<(), Fail> {
+    for &(search_until, rows) in BESIDE {
+        assert!(rt;
+            replies_are(&rt, rt.alloc(), search_until, rows)?,
+            "until {search_until}"
+        );
     }
     Ok(())
 }

@@ -69,7 +69,6 @@ fn replies_are_put_before_more_is_taken(rt: HostRuntime) -> Result<(), Fail> {
         puts: Arc::try_clone(&puts)?,
     };
     let end = session_within(&rt, alloc, &mut source, &mut sink, 65_536);
-    assert_eq!(rt; end, EndStatus::Done);
-    assert_eq!(rt; puts.load(Ordering::SeqCst), 3);
+    assert!(rt; end == EndStatus::Done && puts.load(Ordering::SeqCst) == 3);
     Ok(())
 }

@@ -1,7 +1,5 @@
 //! Standing searches: what is watched, what commits do to its hits, and when they are searched anew.
-use super::{MEM, Script, replies_are};
-use std::alloc::{AllocError, Global};
-use std::test::Fail;
+use super::{MEM, Made, Script};
 
 pub(super) const SCRIPTS: &[Script] = &[
     (
@@ -200,44 +198,51 @@ pub(super) const SCRIPTS: &[Script] = &[
     ),
 ];
 
-// 17 watches where 16 may be.
-fn many_watches(alloc: Global) -> Result<(String, String), AllocError> {
-    let mut script = String::from_str(alloc, "register 1 C\n")?;
-    let mut replies = String::from_str(alloc, "ok 1\n")?;
-    for number in 1..18u32 {
-        write!(script, "watch w{number} C\n")?;
-        replies.push_str(if number < 17 {
-            "watching 1 hits 1\n"
-        } else {
-            "refused watches\n"
-        })?;
-    }
-    script.push_str("watch w1 C\nwatch w17 C(\nhits w17\nunwatch w9\nwatch w17 N\nhits w16\n")?;
-    replies.push_str("refused watch\nrefused smarts syntax\nrefused watch\nunwatched\n")?;
-    replies.push_str("watching 1 hits 0\nhit 1\nend at 1 hits 1 rebuilt 0\n")?;
-    Ok((script, replies))
-}
-
-// A watch where no pin is free, and where one is again.
-fn no_pin(alloc: Global) -> Result<(String, String), AllocError> {
-    let mut script = String::from_str(alloc, "watch w C\n")?;
-    let mut replies = String::from_str(alloc, "watching 0 hits 0\n")?;
-    for number in 1..65u32 {
-        write!(script, "open c{number} C\n")?;
-        replies.push_str("opened 0\n")?;
-    }
-    script.push_str("register 1 C\nwatch v C\nhits w\nwatch w C\nclose c1\nwatch v N\nhits w\n")?;
-    replies.push_str("ok 1\nrefused pins\nrefused pins\nrefused watch\nclosed\n")?;
-    replies.push_str("watching 1 hits 0\nhit 1\nend at 1 hits 1 rebuilt 0\n")?;
-    Ok((script, replies))
-}
-
-#[test]
-fn long_scripts(rt: HostRuntime) -> Result<(), Fail> {
-    let alloc = rt.alloc();
-    let rows = [many_watches(alloc)?, no_pin(alloc)?];
-    for (script, replies) in &rows {
-        replies_are(&rt, alloc, script, replies)?;
-    }
-    Ok(())
-}
+pub(super) const MADE: &[Made] = &[
+    (
+        "17 watches where 16 may be",
+        MEM,
+        &[
+            (b"register 1 C\n", 1, 1),
+            (b"watch w@ C\n", 1, 17),
+            (
+                b"watch w1 C\nwatch w17 C(\nhits w17\nunwatch w9\nwatch w17 N\nhits w16\n",
+                1,
+                1,
+            ),
+        ],
+        &[
+            (b"ok 1\n", 1, 1),
+            (b"watching 1 hits 1\n", 1, 16),
+            (
+                b"refused watches\nrefused watch\nrefused smarts syntax\nrefused watch\nunwatched\n\
+                watching 1 hits 0\nhit 1\nend at 1 hits 1 rebuilt 0\n",
+                1,
+                1,
+            ),
+        ],
+    ),
+    (
+        "a watch where no pin is free, and where one is again",
+        MEM,
+        &[
+            (b"watch w C\n", 1, 1),
+            (b"open c@ C\n", 1, 64),
+            (
+                b"register 1 C\nwatch v C\nhits w\nwatch w C\nclose c1\nwatch v N\nhits w\n",
+                1,
+                1,
+            ),
+        ],
+        &[
+            (b"watching 0 hits 0\n", 1, 1),
+            (b"opened 0\n", 1, 64),
+            (
+                b"ok 1\nrefused pins\nrefused pins\nrefused watch\nclosed\n\
+                watching 1 hits 0\nhit 1\nend at 1 hits 1 rebuilt 0\n",
+                1,
+                1,
+            ),
+        ],
+    ),
+];
