@@ -87,8 +87,8 @@ const COMPACTED_TWICE: &[u8] =
     b"ZCHEMDB2\x02\0\0\0\x02\0\0\0\x02\0\0\0\x0d\0\0\0\x04\x01\0\0\0\x01\0\0\0\x01CCO\
     \x0b\0\0\0\x04\x02\0\0\0\x02\0\0\0\x01C\0";
 
-// what is on the second disk beside a store of one commit, a script, and what `run` of it leaves: the status, the place of
-// damage, the replies, and what is on both disks
+// What is on the second disk beside a store of one commit, a script, and what `run` of it leaves: the status, the place of
+// damage, the replies, and what is on both disks.
 type Step = (
     &'static [u8],
     &'static str,

@@ -7,7 +7,7 @@ use std::sync::Wait;
 use std::test::Fail;
 use std::thread::Threads;
 
-// the command, its script, the status, the replies, and what is on the first disk then
+// The command, its script, the status, the replies, and what is on the first disk then.
 const USES: &[(&str, &str, u8, &str, &[u8])] = &[
     ("init", "", 0, "", b"ZCHEMDB1\0"),
     ("run", "register 1 CCO\n", 0, "ok 1\n", ONE_COMMIT),
@@ -39,7 +39,7 @@ fn a_store_is_made_and_used_and_used_again(rt: HostRuntime) -> Result<(), Fail> 
 
 const COUNTS: &str = "stats version 0 live 0 withdrawn 0 kept 0 pins 0\n";
 
-// the bytes, the status, the place of damage, and what `stats` is answered
+// The bytes, the status, the place of damage, and what `stats` is answered.
 const BYTES: &[(&[u8], u8, u64, &str)] = &[
     (b"ZCHEMDB1\0", 0, 0, COUNTS),
     (b"", 6, 0, ""),
@@ -65,6 +65,7 @@ const BYTES: &[(&[u8], u8, u64, &str)] = &[
 
 const ABSENT: &str = "refused absent\nstats version 0 live 0 withdrawn 0 kept 0 pins 0\n";
 
+// The same of stores by another hand, where `show 1` is asked first.
 const BY_ANOTHER_HAND: &[(&[u8], u8, u64, &str)] = &[
     // a text that has no structure, and one with a line feed
     (b"ZCHEMDB1Z\x09\0\0\0\x01\x01\0\0\0\x01CC(\0", 7, 8, ""),
@@ -85,7 +86,7 @@ const BY_ANOTHER_HAND: &[(&[u8], u8, u64, &str)] = &[
         0,
         "refused absent\nstats version 1 live 1 withdrawn 0 kept 1 pins 0\n",
     ),
-    // a withdrawal with a text, one of what is ABSENT, and a registration of what was withdrawn
+    // a withdrawal with a text, one of what is absent, and a registration of what was withdrawn
     (b"ZCHEMDB1Z\x06\0\0\0\x03\x01\0\0\0\x01\0", 7, 8, ""),
     (b"ZCHEMDB1Z\x05\0\0\0\x03\x01\0\0\0\0", 7, 8, ""),
     (
@@ -192,7 +193,7 @@ fn each_call_of_the_disk_fails_in_turn(rt: HostRuntime) -> Result<(), Fail> {
     Ok(())
 }
 
-// the command, whether it makes the files, the script, the status, and what was put
+// The command, whether it makes the files, the script, the status, and what was put.
 const COMMANDS: &[(&str, bool, &str, u8, &str)] = &[
     ("run", false, "stats\n", 5u8, ""),
     ("init", true, "", 0, ""),
