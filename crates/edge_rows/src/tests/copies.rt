@@ -47,17 +47,6 @@ fn long(alloc: Global) -> Result<Vec<u8>, AllocError>
     vec![in alloc; 7; 30_000]
 }
 
-// A disk whose copy was finished with this many calls that pass, and whether the finish is in doubt.
-fn stopped(alloc: Global, calls: u64) -> Result<(MemDisk, bool), Fail> {
-    let mut carry = copied(alloc, store(alloc)?)?;
-    carry.stop_after(calls);
-    match carry.finish() {
-        Err(FinishFault::Sure(disk)) => Ok((disk, false)),
-        Err(FinishFault::Doubt(disk)) => Ok((disk, true)),
-        _ => Err(Fail::new("another answer")),
-    }
-}
-
 // Whether an image of a disk is open.
 fn is_open(disk: MemDisk, choice: u32) -> Result<bool, DiskFail> {
     let mut image = disk.image(choice);
@@ -65,17 +54,23 @@ fn is_open(disk: MemDisk, choice: u32) -> Result<bool, DiskFail> {
     Ok(header.is_some())
 }
 
+// The place of a copy on a disk before its finish, the header and the place of its journal, and whether it has its bytes.
+fn finished(alloc: Global, disk: MemDisk) -> Result<(u64, Header, u64, bool), Fail> {
+    let carry = copied(alloc, disk)?;
+    let before = carry.place();
+    let Ok(journal) = carry.finish() else {
+        return Err(Fail::new("not finished"));
+    };
+    let (header, place) = (journal.header(), journal.place());
+    let has_bytes = journal.into_disk().bytes() == COPY.as_slice();
+    Ok((before, header, place, has_bytes))
+}
+
 #[test]
 fn a_copy_is_written_as_its_bytes(rt: HostRuntime) -> Result<(), Fail> {
-    for disk in [MemDisk::new(rt.alloc()), store(rt.alloc())?] {
-        let carry = copied(rt.alloc(), disk)?;
-        assert_eq!(rt; carry.place(), 32);
-        let Ok(journal) = carry.finish() else {
-            return Err(Fail::new("not finished"));
-        };
-        assert_eq!(rt; (journal.header(), journal.place()), (HEADER, 32));
-        assert_eq!(rt; journal.into_disk().bytes(), COPY.as_slice());
-    }
+    let on_new = finished(rt.alloc(), MemDisk::new(rt.alloc()))?;
+    let on_store = finished(rt.alloc(), store(rt.alloc())?)?;
+    assert_eq!(rt; [on_new, on_store], [(32, HEADER, 32, true); 2]);
     Ok(())
 }
 
@@ -102,31 +97,47 @@ fn add_thrice(carry: &mut Carry<MemDisk>, long: &Vec<u8>) -> Result<(), DiskFail
     carry.add(long)
 }
 
+// Whether a copy with three such payloads is finished as these bytes.
+fn is_written_as(alloc: Global, long: &Vec<u8>, bytes: &[u8]) -> Result<bool, Fail>
+    requires { length long.now.items ≡ 30000 }
+{
+    let mut carry = copied(alloc, store(alloc)?)?;
+    add_thrice(&mut carry, long)?;
+    match carry.finish() {
+        Ok(journal) => Ok(journal.into_disk().bytes() == bytes),
+        Err(_) => Err(Fail::new("not finished")),
+    }
+}
+
 #[test]
 fn a_long_copy_is_written_whole(rt: HostRuntime) -> Result<(), Fail> {
     let long = long(rt.alloc())?;
     let bytes = long_copy(rt.alloc(), &long)?;
-    let mut carry = copied(rt.alloc(), store(rt.alloc())?)?;
-    add_thrice(&mut carry, &long)?;
-    match carry.finish() {
-        Ok(journal) => assert!(rt; journal.into_disk().bytes() == bytes.as_slice()),
-        Err(_) => return Err(Fail::new("not finished")),
-    }
+    assert!(rt; is_written_as(rt.alloc(), &long, &bytes)?);
     Ok(())
 }
 
+// What a start with this many calls that pass answers, and whether the disk is open behind a crash.
+fn stopped_start(alloc: Global, calls: u64) -> Result<(CopyFault, bool), Fail> {
+    let mut disk = store(alloc)?;
+    disk.stop_after(calls);
+    match Carry::start(alloc, disk, HEADER) {
+        Ok(_) => Err(Fail::new("started")),
+        Err((fault, disk)) => Ok((fault, is_open(disk, 1)?)),
+    }
+}
+
+// Calls that pass, and whether the disk is open.
+const STARTS: &[(u64, bool)] = &[(0, true), (1, true), (2, true), (3, true), (4, false)];
+
 #[test]
 fn a_stopped_start_leaves_the_store_or_none(rt: HostRuntime) -> Result<(), Fail> {
-    for (calls, left) in [(0, true), (1, true), (2, true), (3, true), (4, false)] {
-        let mut disk = store(rt.alloc())?;
-        disk.stop_after(calls);
-        match Carry::start(rt.alloc(), disk, HEADER) {
-            Ok(_) => return Err(Fail::new("started")),
-            Err((fault, disk)) => {
-                assert_eq!(rt; fault, CopyFault::Sure);
-                assert_eq!(rt; is_open(disk, 1), Ok(left), "{calls}");
-            }
-        }
+    for &(calls, left) in STARTS {
+        assert_eq!(rt;
+            stopped_start(rt.alloc(), calls)?,
+            (CopyFault::Sure, left),
+            "{calls}"
+        );
     }
     Ok(())
 }
@@ -139,15 +150,24 @@ const FINISHES: &[(u64, bool, [bool; 4])] = &[
     (3, true, [true, false, true, false]),
 ];
 
+// Whether a finish with this many calls that pass is in doubt, and whether an image of its disk is open.
+fn stopped_finish(alloc: Global, calls: u64, choice: u32) -> Result<(bool, bool), Fail> {
+    let mut carry = copied(alloc, store(alloc)?)?;
+    carry.stop_after(calls);
+    match carry.finish() {
+        Err(FinishFault::Sure(disk)) => Ok((false, is_open(disk, choice)?)),
+        Err(FinishFault::Doubt(disk)) => Ok((true, is_open(disk, choice)?)),
+        _ => Err(Fail::new("another answer")),
+    }
+}
+
 #[test]
 fn a_stopped_finish_is_there_or_not(rt: HostRuntime) -> Result<(), Fail> {
     for &(calls, is_doubt, left) in FINISHES {
         for choice in 0..4 {
-            let (disk, doubt) = stopped(rt.alloc(), calls)?;
-            assert_eq!(rt; doubt, is_doubt, "{calls}");
             assert_eq!(rt;
-                is_open(disk, choice),
-                Ok(left[choice as usize]),
+                stopped_finish(rt.alloc(), calls, choice)?,
+                (is_doubt, left[choice as usize]),
                 "{calls} {choice}"
             );
         }
@@ -155,17 +175,26 @@ fn a_stopped_finish_is_there_or_not(rt: HostRuntime) -> Result<(), Fail> {
     Ok(())
 }
 
+// What a disk answers that is shut behind a doubtful finish, and whether an image of it is open.
+fn shut_in_doubt(alloc: Global, choice: u32) -> Result<(Result<(), DiskFail>, bool), Fail> {
+    let mut carry = copied(alloc, store(alloc)?)?;
+    carry.fail_once(4);
+    let Err(FinishFault::Doubt(disk)) = carry.finish() else {
+        return Err(Fail::new("another answer"));
+    };
+    let mut disk = disk;
+    let answer = shut(&mut disk);
+    Ok((answer, is_open(disk, choice)?))
+}
+
 #[test]
 fn a_shut_disk_never_opens(rt: HostRuntime) -> Result<(), Fail> {
     for choice in 0..6 {
-        let mut carry = copied(rt.alloc(), store(rt.alloc())?)?;
-        carry.fail_once(4);
-        let Err(FinishFault::Doubt(disk)) = carry.finish() else {
-            return Err(Fail::new("another answer"));
-        };
-        let mut disk = disk;
-        assert_eq!(rt; shut(&mut disk), Ok(()));
-        assert_eq!(rt; is_open(disk, choice), Ok(false), "{choice}");
+        assert_eq!(rt;
+            shut_in_doubt(rt.alloc(), choice)?,
+            (Ok(()), false),
+            "{choice}"
+        );
     }
     Ok(())
 }

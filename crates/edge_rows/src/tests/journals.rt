@@ -1,6 +1,6 @@
 //! Worked journals: the bytes, a file cut at each byte, a base in front, and a crash after a stop at each call.
 
-ghost use Rattle.std.specs.Prelude.{◌≡◌, true, false, IfOk, OnOk};
+ghost use Rattle.std.specs.Prelude.{◌≡◌, ◌<◌, true, false, IfOk, OnOk};
 
 use disk_edge::{Disk, FileDisk, MemDisk};
 use journal_core::{AppendFault, CreateFault, Header, Journal, LoadFault, peek_header};
@@ -153,19 +153,38 @@ const APPENDS: &[(u64, Result<(), AppendFault>, [u64; 6])] = &[
     (4, Ok(()), [2, 2, 2, 2, 2, 2]),
 ];
 
+// The journal of the file, in memory.
+fn journal(alloc: Global) -> Result<Journal<MemDisk>, Fail>
+    ensures { IfOk result (λ j. (j.ready ≡ true) × (j.doubt ≡ false) × (j.place < 100)) }
+{
+    let disk = MemDisk::of(alloc, FILE.to_vec(alloc)?)?;
+    let (journal, _) = read(alloc, disk)?;
+    if journal.place() >= 100 {
+        return Err(Fail::new("another place"));
+    }
+    Ok(journal)
+}
+
+// What an append with this many calls that pass answers, and how many payloads an image of its disk has.
+fn stopped_append(
+    alloc: Global,
+    calls: u64,
+    choice: u32,
+) -> Result<(Result<(), AppendFault>, u64), Fail> {
+    let mut journal = journal(alloc)?;
+    journal.stop_after(calls);
+    let answer = journal.append(&PAYLOAD);
+    let count = count(alloc, journal.into_disk().image(choice))?;
+    Ok((answer, count))
+}
+
 #[test]
 fn a_crash_leaves_the_payload_or_not(rt: HostRuntime) -> Result<(), Fail> {
     for &(calls, answer, left) in APPENDS {
         for choice in 0..6 {
-            let disk = MemDisk::of(rt.alloc(), FILE.to_vec(rt.alloc())?)?;
-            let (mut journal, _) = read(rt.alloc(), disk)?;
-            assert!(rt; journal.place() < 100);
-            journal.stop_after(calls);
-            assert_eq!(rt; journal.append(&PAYLOAD), answer);
-            let disk = journal.into_disk().image(choice);
             assert_eq!(rt;
-                count(rt.alloc(), disk),
-                Ok(left[choice as usize]),
+                stopped_append(rt.alloc(), calls, choice)?,
+                (answer, left[choice as usize]),
                 "{calls} {choice}"
             );
         }
@@ -173,19 +192,25 @@ fn a_crash_leaves_the_payload_or_not(rt: HostRuntime) -> Result<(), Fail> {
     Ok(())
 }
 
+// Whether a journal is in doubt behind the settlement of a doubtful append, and how many payloads an image of its disk
+// has.
+fn settled(alloc: Global, choice: u32) -> Result<(bool, u64), Fail> {
+    let mut journal = journal(alloc)?;
+    journal.fail_once(4);
+    let answer = journal.append(&PAYLOAD);
+    if answer != Err(AppendFault::Doubt) || !journal.doubt() {
+        return Err(Fail::new("not in doubt"));
+    }
+    journal.settle()?;
+    let is_in_doubt = journal.doubt();
+    let count = count(alloc, journal.into_disk().image(choice))?;
+    Ok((is_in_doubt, count))
+}
+
 #[test]
 fn a_settled_doubt_will_not_appear(rt: HostRuntime) -> Result<(), Fail> {
     for choice in 0..6 {
-        let disk = MemDisk::of(rt.alloc(), FILE.to_vec(rt.alloc())?)?;
-        let (mut journal, _) = read(rt.alloc(), disk)?;
-        assert!(rt; journal.place() < 100);
-        journal.fail_once(4);
-        assert_eq!(rt; journal.append(&PAYLOAD), Err(AppendFault::Doubt));
-        assert!(rt; journal.doubt());
-        assert_eq!(rt; journal.settle(), Ok(()));
-        assert!(rt; !journal.doubt());
-        let disk = journal.into_disk().image(choice);
-        assert_eq!(rt; count(rt.alloc(), disk), Ok(1), "{choice}");
+        assert_eq!(rt; settled(rt.alloc(), choice)?, (false, 1), "{choice}");
     }
     Ok(())
 }

@@ -48,15 +48,43 @@ const LINES: &[(&[u8], u64, &[u8])] = &[
     (b"ab\n", 0, b"#"),
 ];
 
+// How many bytes are taken at once.
+const PIECES: &[usize] = &[1, 3, 1000];
+
+// What calls for the next line of a text answer, of which a piece is taken at once.
+fn answers_by(
+    alloc: Global,
+    bytes: Vec<u8>,
+    piece: usize,
+    limit: u64,
+) -> Result<Vec<u8>, AllocError> {
+    if piece == 0 {
+        return Err(AllocError);
+    }
+    let mut source = MemSource::new(bytes, piece, Vec::new(alloc));
+    answers(alloc, &mut source, limit)
+}
+
+// Whether a text is cut into these lines.
+fn is_cut(
+    alloc: Global,
+    text: &[u8],
+    piece: usize,
+    limit: u64,
+    want: &[u8],
+) -> Result<bool, AllocError> {
+    let said = answers_by(alloc, text.to_vec(alloc)?, piece, limit)?;
+    Ok(said.as_slice() == want)
+}
+
 #[test]
 fn texts_are_cut_into_lines(rt: HostRuntime) -> Result<(), Fail> {
     for &(text, limit, want) in LINES {
-        for piece in [1, 3, 1000] {
-            assert!(rt; 1 <= piece);
-            let bytes = text.to_vec(rt.alloc())?;
-            let mut source = MemSource::new(bytes, piece, Vec::new(rt.alloc()));
-            let said = answers(rt.alloc(), &mut source, limit)?;
-            assert_eq!(rt; said.as_slice(), want, "{text:?} by {piece}");
+        for &piece in PIECES {
+            assert!(rt;
+                is_cut(rt.alloc(), text, piece, limit, want)?,
+                "{text:?} by {piece}"
+            );
         }
     }
     Ok(())
@@ -71,21 +99,31 @@ const LONG: &[(usize, &[u8], bool)] = &[
     (200_000, b"\r\nab", true),
 ];
 
+// Whether a line of this length, and what stands behind it, is told as long or whole.
+fn is_told(
+    alloc: Global,
+    length: usize,
+    end: &[u8],
+    piece: usize,
+    long: bool,
+) -> Result<bool, AllocError> {
+    let mut bytes = vec![in alloc; b'x'; length]?;
+    bytes.extend_from_slice(end)?;
+    let said = answers_by(alloc, bytes, piece, 1_000_000)?;
+    if long {
+        return Ok(said.as_slice() == b"L|ab|.".as_slice());
+    }
+    Ok(said.len() == length.saturating_add(5) && said.ends_with(b"|ab|."))
+}
+
 #[test]
 fn long_lines_are_told(rt: HostRuntime) -> Result<(), Fail> {
     for &(length, end, long) in LONG {
-        for piece in [1, 3, 1000] {
-            assert!(rt; 1 <= piece);
-            let mut bytes = vec![in rt.alloc(); b'x'; length]?;
-            bytes.extend_from_slice(end)?;
-            let mut source = MemSource::new(bytes, piece, Vec::new(rt.alloc()));
-            let said = answers(rt.alloc(), &mut source, 1_000_000)?;
-            if long {
-                assert_eq!(rt; said.as_slice(), b"L|ab|.".as_slice(), "{length} {piece}");
-            } else {
-                let is_whole = said.len() == length + 5 && said.ends_with(b"|ab|.");
-                assert!(rt; is_whole, "{length} {piece}");
-            }
+        for &piece in PIECES {
+            assert!(rt;
+                is_told(rt.alloc(), length, end, piece, long)?,
+                "{length} {piece}"
+            );
         }
     }
     Ok(())

@@ -104,42 +104,68 @@ const FINISHES: &[(u64, Result<(), PutFault>, [u32; 4])] = &[
     (4, Ok(()), [1, 1, 1, 1]),
 ];
 
+// What a finish with this many calls that pass answers, and the generation behind a crash to these images.
+fn stopped_finish(
+    alloc: Global,
+    calls: u64,
+    image: u32,
+) -> Result<(Result<(), PutFault>, u32), Fail> {
+    let mut pair = copied(alloc)?;
+    pair.stop_after(Which::Second, calls);
+    let answer = pair.finish();
+    Ok((answer, generation(alloc, pair, image)?))
+}
+
 #[test]
 fn a_stopped_finish_is_there_or_not(rt: HostRuntime) -> Result<(), Fail> {
     for &(calls, outcome, left) in FINISHES {
         for image in 0..4 {
-            let mut pair = copied(rt.alloc())?;
-            pair.stop_after(Which::Second, calls);
-            assert_eq!(rt; pair.finish(), outcome, "{calls}");
-            let read = generation(rt.alloc(), pair, image)?;
-            assert_eq!(rt; read, left[image as usize], "{calls} {image}");
+            assert_eq!(rt;
+                stopped_finish(rt.alloc(), calls, image)?,
+                (outcome, left[image as usize]),
+                "{calls} {image}"
+            );
         }
     }
     Ok(())
 }
 
+// Whether a copy is left by a doubtful finish, what a commit behind it answers, and the generation behind a crash to
+// these images.
+fn doubtful_finish(alloc: Global, image: u32) -> Result<(bool, Result<(), PutFault>, u32), Fail> {
+    let mut pair = copied(alloc)?;
+    pair.fail_once(Which::Second, 3);
+    let Err(PutFault::DiskFault { doubt: true }) = pair.finish() else {
+        return Err(Fail::new("another answer"));
+    };
+    let is_copying = pair.is_copying();
+    let answer = pair.append(&SECOND);
+    Ok((is_copying, answer, generation(alloc, pair, image)?))
+}
+
 #[test]
 fn a_commit_ends_a_doubtful_finish(rt: HostRuntime) -> Result<(), Fail> {
     for image in 0..4 {
-        let mut pair = copied(rt.alloc())?;
-        pair.fail_once(Which::Second, 3);
-        assert_eq!(rt; pair.finish(), Err(PutFault::DiskFault { doubt: true }));
-        assert!(rt; !pair.is_copying());
-        assert_eq!(rt; pair.append(&SECOND), Ok(()));
-        assert_eq!(rt; generation(rt.alloc(), pair, image)?, 0, "{image}");
+        assert_eq!(rt;
+            doubtful_finish(rt.alloc(), image)?,
+            (false, Ok(()), 0),
+            "{image}"
+        );
     }
     Ok(())
 }
 
+// What a base record answers whose disk fails, whether a copy is left, and the generation behind a crash.
+fn failed_copy(alloc: Global) -> Result<(Result<(), PutFault>, bool, u32), Fail> {
+    let mut pair = begun(alloc)?;
+    pair.fail_once(Which::Second, 1);
+    let answer = pair.put_base(&BASE);
+    let is_copying = pair.is_copying();
+    Ok((answer, is_copying, generation(alloc, pair, 0)?))
+}
+
 #[test]
 fn a_copy_that_failed_is_given_up(rt: HostRuntime) -> Result<(), Fail> {
-    let mut pair = begun(rt.alloc())?;
-    pair.fail_once(Which::Second, 1);
-    assert_eq!(rt;
-        pair.put_base(&BASE),
-        Err(PutFault::DiskFault { doubt: false })
-    );
-    assert!(rt; !pair.is_copying());
-    assert_eq!(rt; generation(rt.alloc(), pair, 0)?, 0);
+    assert_eq!(rt; failed_copy(rt.alloc())?, (SURE, false, 0));
     Ok(())
 }

@@ -1,6 +1,6 @@
 //! Texts with their answers, by hand.
 
-use chem_core::{Fill, SketchAtom, SketchBond, SketchKind};
+use chem_core::{Fill, Sketch, SketchAtom, SketchBond, SketchKind};
 use molfile_read::{MolfileFault, read_molfile};
 use std::alloc::{AllocError, Global};
 use std::test::Fail;
@@ -154,14 +154,20 @@ fn fault_of(alloc: Global, text: &str) -> Option<MolfileFault> {
     read_molfile(alloc, text.as_bytes()).err()
 }
 
+// The fault of the changed text.
+fn fault_after(alloc: Global, old: &str, new: &str) -> Result<Option<MolfileFault>, AllocError> {
+    let text = changed(alloc, old, new)?;
+    Ok(fault_of(alloc, &text))
+}
+
+const CHANGES: &[&[Change]] = &[HEADERS, ATOMS, BONDS, PROPERTIES];
+
 #[test]
 fn each_change_has_its_fault(rt: HostRuntime) -> Result<(), Fail> {
-    for changes in [HEADERS, ATOMS, BONDS, PROPERTIES] {
-        for (old, new, fault) in changes {
-            let text = changed(rt.alloc(), old, new)?;
-            assert_eq!(rt;
-                fault_of(rt.alloc(), &text),
-                *fault,
+    for changes in CHANGES {
+        for (old, new, fault) in *changes {
+            assert!(rt;
+                fault_after(rt.alloc(), old, new)? == *fault,
                 "{new} in place of {old}"
             );
         }
@@ -180,7 +186,7 @@ const CARBON: SketchAtom = SketchAtom {
 };
 
 #[rattlefmt::skip]
-const ATOMS_OF_ACETATE: [SketchAtom; 4] = [
+const ATOMS_OF_ACETATE: &[SketchAtom] = &[
     CARBON,
     SketchAtom { written: 1, ..CARBON },
     SketchAtom { number: 8, written: 2, ..CARBON },
@@ -188,17 +194,20 @@ const ATOMS_OF_ACETATE: [SketchAtom; 4] = [
 ];
 
 #[rattlefmt::skip]
-const BONDS_OF_ACETATE: [SketchBond; 3] = [
+const BONDS_OF_ACETATE: &[SketchBond] = &[
     SketchBond { a: 0, b: 1, kind: SketchKind::Single },
     SketchBond { a: 1, b: 2, kind: SketchKind::Double },
     SketchBond { a: 1, b: 3, kind: SketchKind::Single },
 ];
 
+fn is_acetate(sketch: &Sketch) -> bool {
+    sketch.atoms.as_slice() == ATOMS_OF_ACETATE && sketch.bonds.as_slice() == BONDS_OF_ACETATE
+}
+
 #[test]
 fn charge_lines_take_the_place_of_charge_fields(rt: HostRuntime) -> Result<(), Fail> {
     let sketch = read_molfile(rt.alloc(), ACETATE.as_bytes())?;
-    assert_eq!(rt; sketch.atoms.as_slice(), ATOMS_OF_ACETATE.as_slice());
-    assert_eq!(rt; sketch.bonds.as_slice(), BONDS_OF_ACETATE.as_slice());
+    assert!(rt; is_acetate(&sketch));
     Ok(())
 }
 
@@ -228,24 +237,36 @@ const THIRDS: &[Third] = &[
     ("O   0  5  0  0  0  0", "O   0  4  0  0  0  0", OXYGEN),
 ];
 
+// The third atom of the changed text.
+fn third_after(alloc: Global, old: &str, new: &str) -> Result<Option<SketchAtom>, Fail> {
+    let text = changed(alloc, old, new)?;
+    let sketch = read_molfile(alloc, text.as_bytes())?;
+    Ok(sketch.atoms.get(2).copied())
+}
+
 #[test]
 fn fields_and_lines_make_an_atom(rt: HostRuntime) -> Result<(), Fail> {
     for (old, new, third) in THIRDS {
-        let text = changed(rt.alloc(), old, new)?;
-        let sketch = read_molfile(rt.alloc(), text.as_bytes())?;
-        assert_eq!(rt; sketch.atoms.get(2), Some(third), "{new} in place of {old}");
+        assert!(rt;
+            third_after(rt.alloc(), old, new)? == Some(*third),
+            "{new} in place of {old}"
+        );
     }
     Ok(())
 }
 
+// The fault of so many empty lines.
+fn fault_of_blank(alloc: Global, count: usize) -> Result<Option<MolfileFault>, AllocError> {
+    let text = "\n".repeat(alloc, count)?;
+    Ok(fault_of(alloc, &text))
+}
+
 #[test]
 fn long_texts(rt: HostRuntime) -> Result<(), Fail> {
-    let blank = "\n".repeat(rt.alloc(), 262_144)?;
-    assert_eq!(rt; fault_of(rt.alloc(), &blank), Some(HEADER));
-    let longer = format!(in rt.alloc(); "{blank}\n")?;
-    assert_eq!(rt; fault_of(rt.alloc(), &longer), Some(MolfileFault::Limit));
+    let blank = fault_of_blank(rt.alloc(), 262_144)?;
+    let longer = fault_of_blank(rt.alloc(), 262_145)?;
     let wide = "x".repeat(rt.alloc(), 70_000)?;
-    let text = changed(rt.alloc(), "acetate", &wide)?;
-    assert_eq!(rt; fault_of(rt.alloc(), &text), None);
+    let named = fault_after(rt.alloc(), "acetate", &wide)?;
+    assert!(rt; (blank, longer, named) == (Some(HEADER), Some(MolfileFault::Limit), None));
     Ok(())
 }

@@ -1,7 +1,7 @@
 //! Texts and what they are read as.
 
 use smarts_parse::{Graph, Pattern, SmartsFault, parse};
-use std::alloc::Global;
+use std::alloc::{AllocError, Global};
 use std::test::Fail;
 
 // Texts, and their first fault.
@@ -28,13 +28,14 @@ const FAULTS: &[(&str, SmartsFault)] = &[
     ("(C1).(C)", SmartsFault::Ring),
 ];
 
+fn fault_of(alloc: Global, text: &str) -> Option<SmartsFault> {
+    parse(alloc, text.as_bytes()).err()
+}
+
 #[test]
 fn the_first_fault_is_answered(rt: HostRuntime) -> Result<(), Fail> {
     for &(text, fault) in FAULTS {
-        match parse(rt.alloc(), text.as_bytes()) {
-            Ok(_) => assert!(rt; false, "at {text}"),
-            Err(found) => assert_eq!(rt; found, fault, "at {text}"),
-        }
+        assert!(rt; fault_of(rt.alloc(), text) == Some(fault), "at {text}");
     }
     Ok(())
 }
@@ -47,21 +48,17 @@ const SIZES: &[(&str, (usize, usize, usize))] = &[
     ("[$(C[$(N)]),$(O)]C[$([$(S)])]", (3, 2, 5)),
 ];
 
-// The atoms, bonds and recursive parts of patterns.
+// The atoms, bonds and recursive parts of a text's pattern.
+fn sizes_of(alloc: Global, text: &str) -> Option<(usize, usize, usize)> {
+    let pattern = parse(alloc, text.as_bytes()).ok()?;
+    let top = &pattern.top;
+    Some((top.atoms.len(), top.bonds.len(), pattern.recs.len()))
+}
+
 #[test]
 fn patterns_are_read(rt: HostRuntime) -> Result<(), Fail> {
     for &(text, sizes) in SIZES {
-        match parse(rt.alloc(), text.as_bytes()) {
-            Ok(pattern) => {
-                let found = (
-                    pattern.top.atoms.len(),
-                    pattern.top.bonds.len(),
-                    pattern.recs.len(),
-                );
-                assert_eq!(rt; found, sizes, "at {text}");
-            }
-            Err(_) => assert!(rt; false, "at {text}"),
-        }
+        assert!(rt; sizes_of(rt.alloc(), text) == Some(sizes), "at {text}");
     }
     Ok(())
 }
@@ -85,12 +82,16 @@ const GROUPS: &[(&str, &[u16])] = &[
 fn groups_are_numbered(rt: HostRuntime) -> Result<(), Fail> {
     for &(text, groups) in GROUPS {
         let pattern = parse(rt.alloc(), text.as_bytes())?;
-        assert_eq!(rt; pattern.top.groups.as_slice(), groups, "at {text}");
-        assert!(rt; pattern.recs.iter().all(is_one_group), "at {text}");
+        assert!(rt; has_groups(&pattern, groups), "at {text}");
     }
     let many = many_groups(rt.alloc())?;
     assert!(rt; many.top.groups.iter().copied().eq(1..=256));
     Ok(())
+}
+
+// Whether these are the groups of the pattern's atoms, and all atoms of its recursive parts are in no group.
+fn has_groups(pattern: &Pattern, groups: &[u16]) -> bool {
+    pattern.top.groups.as_slice() == groups && pattern.recs.iter().all(is_one_group)
 }
 
 // Whether all atoms of a recursive part are in no group.
@@ -100,11 +101,8 @@ fn is_one_group(part: &Graph) -> bool {
 
 // As many groups as a text may have.
 fn many_groups(alloc: Global) -> Result<Pattern, Fail> {
-    let mut text = String::new(alloc);
-    text.push_str("(C)")?;
-    for _ in 1..256 {
-        text.push_str(".(C)")?;
-    }
+    let text = long_text(alloc, ".(C)", 255, "", "")?;
+    let text = format!(in alloc; "(C){text}")?;
     Ok(parse(alloc, text.as_bytes())?)
 }
 
@@ -122,26 +120,23 @@ const LIMITS: &[(&str, usize, &str, &str, Option<SmartsFault>)] = &[
 #[test]
 fn limits_are_kept(rt: HostRuntime) -> Result<(), Fail> {
     for &(front, count, middle, back, fault) in LIMITS {
-        let found = fault_of(rt.alloc(), front, count, middle, back)?;
-        assert_eq!(rt; found, fault, "at {count} times {front}");
+        let text = long_text(rt.alloc(), front, count, middle, back)?;
+        assert!(rt;
+            fault_of(rt.alloc(), &text) == fault,
+            "at {count} times {front}"
+        );
     }
     Ok(())
 }
 
-fn fault_of(
+fn long_text(
     alloc: Global,
     front: &str,
     count: usize,
     middle: &str,
     back: &str,
-) -> Result<Option<SmartsFault>, Fail> {
-    let mut text = String::new(alloc);
-    for _ in 0..count {
-        text.push_str(front)?;
-    }
-    text.push_str(middle)?;
-    for _ in 0..count {
-        text.push_str(back)?;
-    }
-    Ok(parse(alloc, text.as_bytes()).err())
+) -> Result<String, AllocError> {
+    let front = front.repeat(alloc, count)?;
+    let back = back.repeat(alloc, count)?;
+    format!(in alloc; "{front}{middle}{back}")
 }

@@ -6,23 +6,26 @@ use smarts_mean::{RecTable, atom_true};
 use smarts_parse::{AtomPrim, Expr};
 use std::test::Fail;
 
-// The ammonium ion of mass number 15: one atom, no bond.
+// Of mass number 15, with a charge.
+const NITROGEN: Atom = Atom {
+    number: 7,
+    isotope: 15,
+    charge: 1,
+    ..CARBON
+};
+
+const UPPER: AtomPrim = AtomPrim::Symbol {
+    number: 7,
+    lower: false,
+};
+
+// The ammonium ion: one atom, no bond.
 #[test]
 fn primitives_at_one_atom(rt: HostRuntime) -> Result<(), Fail> {
-    let nitrogen = Atom {
-        number: 7,
-        isotope: 15,
-        charge: 1,
-        ..CARBON
-    };
-    let mol = alone(rt.alloc(), nitrogen)?;
+    let mol = alone(rt.alloc(), NITROGEN)?;
     let mut table = RecTable::reserve(rt.alloc())?;
-    let upper = AtomPrim::Symbol {
-        number: 7,
-        lower: false,
-    };
     let rows = [
-        (upper, true),
+        (UPPER, true),
         (AtomPrim::Aromatic, false),
         (AtomPrim::Connect(4), true),
         (AtomPrim::NoRing, true),
@@ -30,9 +33,8 @@ fn primitives_at_one_atom(rt: HostRuntime) -> Result<(), Fail> {
         (AtomPrim::Rec(63), false),
     ];
     for (prim, is_true) in rows {
-        assert_eq!(rt;
-            atom_true(&Expr::Prim(prim), &mol, 0, &table),
-            is_true,
+        assert!(rt;
+            atom_true(&Expr::Prim(prim), &mol, 0, &table) == is_true,
             "{prim:?}"
         );
     }

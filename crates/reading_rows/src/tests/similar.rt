@@ -33,18 +33,21 @@ fn tie_and_cut(rt: HostRuntime) -> Result<(), Fail> {
     Ok(())
 }
 
+const KEPT: &[(u32, u32, u32)] = &[TWO, (3, 5, 5)];
+
 #[test]
 fn what_no_offer_changes(rt: HostRuntime) -> Result<(), Fail> {
     let mut best = Best::reserve(rt.alloc(), 1, 2, 2)?;
-    assert!(rt; best.may_take(5, 3, 6));
-    assert!(rt; !best.may_take(5, 3, 7));
+    let of_none = (best.may_take(5, 3, 6), best.may_take(5, 3, 7));
     best.offer(TWO.0, TWO.1, TWO.2);
     best.offer(FOUR.0, FOUR.1, FOUR.2);
-    assert!(rt; best.may_take(3, 5, 5));
-    assert!(rt; !best.may_take(5, 5, 5));
-    assert!(rt; !best.may_take(3, 5, 6));
+    let of_two = (
+        best.may_take(3, 5, 5),
+        best.may_take(5, 5, 5),
+        best.may_take(3, 5, 6),
+    );
     best.offer(3, 5, 5);
-    assert_eq!(rt; best.list(), [TWO, (3, 5, 5)].as_slice());
+    assert!(rt; of_none == (true, false) && of_two == (true, false, false) && best.list() == KEPT);
     Ok(())
 }
 

@@ -129,8 +129,8 @@ fn examples(rt: HostRuntime) -> Result<(), Fail> {
     for example in EXAMPLES {
         let text = example.text;
         let mol = structure(rt.alloc(), Format::Smiles, text.as_bytes())?;
-        assert!(rt; atoms_are(&mol, example), "the atoms of {text}");
-        assert!(rt; bonds_are(&mol, example), "the bonds of {text}");
+        let right = (atoms_are(&mol, example), bonds_are(&mol, example));
+        assert!(rt; right == (true, true), "the atoms and bonds of {text}");
     }
     Ok(())
 }
@@ -168,18 +168,21 @@ fn components_are_named_by_their_least_atom(rt: HostRuntime) -> Result<(), Fail>
     Ok(())
 }
 
+// Whether each atom is its own component.
+fn are_apart(mol: &Mol) -> bool {
+    let mut apart = true;
+    for (place, _) in mol.atoms().iter().enumerate() {
+        apart = apart && usize::from(mol.component(place as u16)) == place;
+    }
+    apart
+}
+
 #[test]
 fn a_structure_has_three_hundred_components(rt: HostRuntime) -> Result<(), Fail> {
-    let mut text = String::new(rt.alloc());
-    let mut components = Vec::new(rt.alloc());
-    text.push_str("C")?;
-    components.push(0)?;
-    for atom in 1..300 {
-        text.push_str(".C")?;
-        components.push(atom)?;
-    }
+    let others = ".C".repeat(rt.alloc(), 299)?;
+    let text = format!(in rt.alloc(); "C{others}")?;
     let mol = structure(rt.alloc(), Format::Smiles, text.as_bytes())?;
-    assert!(rt; components_are(&mol, &components));
+    assert!(rt; (mol.atoms().len(), are_apart(&mol)) == (300, true));
     Ok(())
 }
 
@@ -211,24 +214,31 @@ fn texts_of_one_structure(rt: HostRuntime) -> Result<(), Fail> {
     Ok(())
 }
 
+// Texts, and why each has no structure.
+const REFUSALS: &[(Format, &str, TextFault)] = &[
+    (
+        Format::Smiles,
+        "c1cccc1",
+        TextFault::Smiles(SmilesFault::Aromatic(0)),
+    ),
+    (
+        Format::Smiles,
+        "[H]c1cccc1",
+        TextFault::Smiles(SmilesFault::Aromatic(1)),
+    ),
+    (Format::Smiles, "C(", TextFault::Smiles(SmilesFault::Syntax)),
+    (Format::Molfile, "C", TextFault::Molfile(MolfileFault::Cut)),
+];
+
+fn fault_of(alloc: Global, format: Format, text: &str) -> Option<TextFault> {
+    structure(alloc, format, text.as_bytes()).err()
+}
+
 #[test]
 fn refusals(rt: HostRuntime) {
-    for (format, text, want) in [
-        (
-            Format::Smiles,
-            "c1cccc1",
-            TextFault::Smiles(SmilesFault::Aromatic(0)),
-        ),
-        (
-            Format::Smiles,
-            "[H]c1cccc1",
-            TextFault::Smiles(SmilesFault::Aromatic(1)),
-        ),
-        (Format::Smiles, "C(", TextFault::Smiles(SmilesFault::Syntax)),
-        (Format::Molfile, "C", TextFault::Molfile(MolfileFault::Cut)),
-    ] {
-        let fault = structure(rt.alloc(), format, text.as_bytes()).err();
-        assert_eq!(rt; fault, Some(want), "at {text}");
+    for &(format, text, want) in REFUSALS {
+        let fault = fault_of(rt.alloc(), format, text);
+        assert!(rt; fault == Some(want), "at {text}");
     }
 }
 

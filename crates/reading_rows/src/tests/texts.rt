@@ -1,6 +1,6 @@
 //! Texts and their answers, by the grammar.
 
-use chem_core::{Fill, SketchAtom, SketchBond, SketchKind};
+use chem_core::{Fill, Sketch, SketchAtom, SketchBond, SketchKind};
 use smiles_read::{SmilesFault, read_smiles};
 use std::alloc::{AllocError, Global};
 use std::test::Fail;
@@ -168,20 +168,16 @@ const DRAWN: &[Drawn] = &[
     Drawn { text: "C(C.N)O", first: CARBON, bonds: &[bond!(0, Unwritten, 1), bond!(0, Unwritten, 3)] },
 ];
 
+// Whether the sketch has the first atom and the bonds of the example.
+fn is_drawn(sketch: &Sketch, example: &Drawn) -> bool {
+    sketch.atoms.first() == Some(&example.first) && sketch.bonds.as_slice() == example.bonds
+}
+
 #[test]
 fn sketches_stand_as_written(rt: HostRuntime) -> Result<(), Fail> {
     for example in DRAWN {
         let sketch = read_smiles(rt.alloc(), example.text.as_bytes())?;
-        assert!(rt;
-            sketch.atoms.first() == Some(&example.first),
-            "at {}",
-            example.text
-        );
-        assert!(rt;
-            sketch.bonds.as_slice() == example.bonds,
-            "at {}",
-            example.text
-        );
+        assert!(rt; is_drawn(&sketch, example), "at {}", example.text);
     }
     Ok(())
 }
