@@ -47,36 +47,62 @@ const COMMITS: &[(u32, u32, &[u8], &[u32], u32, &[u32])] = &[
     (6, 4, b"", &[], 6, &[3]),
 ];
 
+// Whether the watches are at these versions and have these hits.
+fn have(watches: &Watches, oxygens: (u32, &[u32]), nitrogens: (u32, &[u32])) -> bool {
+    watches.list(b"o") == Some(oxygens) && watches.list(b"n") == Some(nitrogens)
+}
+
+// Follows the commits. Answers the version after which a list is another one.
+fn other_than_told(alloc: Global, watches: &mut Watches) -> Result<Option<u32>, Fail> {
+    for &(version, id, text, oxygens, nitrogen_version, nitrogens) in COMMITS {
+        commit(alloc, watches, version, id, text)?;
+        if !have(watches, (version, oxygens), (nitrogen_version, nitrogens)) {
+            return Ok(Some(version));
+        }
+    }
+    Ok(None)
+}
+
 #[test]
 fn a_row_of_commits_with_both_lists_after_each(rt: HostRuntime) -> Result<(), Fail> {
-    let alloc = rt.alloc();
-    let mut watches = two_watches(alloc)?;
-    for &(version, id, text, oxygens, nitrogen_version, nitrogens) in COMMITS {
-        commit(alloc, &mut watches, version, id, text)?;
-        let has_oxygens = watches.list(b"o") == Some((version, oxygens));
-        let has_nitrogens = watches.list(b"n") == Some((nitrogen_version, nitrogens));
-        assert!(rt; has_oxygens && has_nitrogens, "{version}");
-    }
+    let mut watches = two_watches(rt.alloc())?;
+    let other = other_than_told(rt.alloc(), &mut watches)?;
+    assert!(rt; other.is_none(), "{other:?}");
     Ok(())
+}
+
+// A watch of oxygen at version 0, without hits.
+fn one_watch(alloc: Global) -> Result<Watches, Fail> {
+    let oxygen = parse(alloc, b"O")?;
+    let mut watches = Watches::new(alloc);
+    watches.add(b"o", oxygen, 0, Vec::new(alloc))?;
+    Ok(watches)
+}
+
+// Fills a watch of oxygen. Answers how often it was filled.
+fn fill(alloc: Global, watches: &mut Watches) -> Option<u32> {
+    if watches.pattern(b"o").is_some() {
+        watches.fill(b"o", 3, Vec::new(alloc));
+    }
+    watches.fills(b"o")
+}
+
+// Takes a watch of nitrogen and one of oxygen out. Answers whether there was each, and how many are left.
+fn take_out(watches: &mut Watches) -> ([bool; 2], usize) {
+    let are_taken = [watches.remove(b"n"), watches.remove(b"o")];
+    (are_taken, watches.len())
 }
 
 #[test]
 fn a_watch_that_missed_a_commit_is_filled_and_taken_out(rt: HostRuntime) -> Result<(), Fail> {
-    let alloc = rt.alloc();
-    let oxygen = parse(alloc, b"O")?;
-    let mut watches = Watches::new(alloc);
-    watches.add(b"o", oxygen, 0, Vec::new(alloc))?;
-    commit(alloc, &mut watches, 3, 5, b"CO")?;
+    let mut watches = one_watch(rt.alloc())?;
+    commit(rt.alloc(), &mut watches, 3, 5, b"CO")?;
     let has_missed = watches.list(b"o") == Some((0, &[]));
-    if watches.pattern(b"o").is_some() {
-        watches.fill(b"o", 3, Vec::new(alloc));
-    }
-    let fills = watches.fills(b"o");
-    let are_taken = [watches.remove(b"n"), watches.remove(b"o")];
+    let fills = fill(rt.alloc(), &mut watches);
+    let taken = take_out(&mut watches);
     assert_eq!(rt;
-        (has_missed, fills, are_taken),
-        (true, Some(1), [false, true])
+        (has_missed, fills, taken),
+        (true, Some(1), ([false, true], 0))
     );
-    assert_eq!(rt; watches.len(), 0);
     Ok(())
 }
