@@ -71,7 +71,7 @@ fn each_put_and_each_take_fails_in_turn(rt: HostRuntime) -> Result<(), Fail> {
     }
     ends(&rt, alloc, PLAIN, 0, taken)?;
     // a byte at each take, and the end at the last
-    for take in 0..=taken {
+    for take in 0..taken.saturating_add(1) {
         let takes = [take as u64];
         let ways = Ways {
             piece: 1,
