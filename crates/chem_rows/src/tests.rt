@@ -42,19 +42,6 @@ const ONE_COMMIT: &[u8] = b"ZCHEMDB1Z\x09\0\0\0\x01\x01\0\0\0\x01CCO\0";
 // What a script is about, words, and the script with its replies, as `check` has them.
 type Script = (&'static str, &'static [&'static str], &'static str);
 
-// The scripts of all files.
-const SCRIPTS: &[&[Script]] = &[
-    cursors::SCRIPTS,
-    patterns::SCRIPTS,
-    structures::SCRIPTS,
-    refused::SCRIPTS,
-    lookups::SCRIPTS,
-    sd::SCRIPTS,
-    watches::SCRIPTS,
-    drills::SCRIPTS,
-    compact::SCRIPTS,
-];
-
 // A text that stands once for each number from a first to a last one. `@` in it is the number.
 type Piece = (&'static [u8], u32, u32);
 
@@ -76,19 +63,7 @@ const MADE: &[&[Made]] = &[
     compact::MADE,
 ];
 
-// All scripts, by a function, since a proof that loops over the table itself writes them all out.
-fn scripts_of_all() -> &'static [&'static [Script]] {
-    SCRIPTS
-}
-
-#[test]
-fn scripts(rt: HostRuntime) -> Result<(), Fail> {
-    for &rows in scripts_of_all() {
-        check_each(&rt, rt.alloc(), rows)?;
-    }
-    Ok(())
-}
-
+// A row of scripts.
 fn check_each<R: Abort + Threads + Wait + Sync>(
     rt: &R,
     alloc: Global,

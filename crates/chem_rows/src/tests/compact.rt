@@ -1,9 +1,9 @@
 //! Compactions: what is written, while others work, and where a disk stops or fails at a call of one.
 
-use super::{MEM, Made, ONE_COMMIT, Script, check, run_leaves};
+use super::{MEM, Made, ONE_COMMIT, Script, check, check_each, run_leaves};
 use std::test::Fail;
 
-pub(super) const SCRIPTS: &[Script] = &[
+const SCRIPTS: &[Script] = &[
     (
         "others work beside a compaction",
         MEM,
@@ -72,6 +72,11 @@ pub(super) const SCRIPTS: &[Script] = &[
         ",
     ),
 ];
+
+#[test]
+fn scripts(rt: HostRuntime) -> Result<(), Fail> {
+    check_each(&rt, rt.alloc(), SCRIPTS)
+}
 
 // The same store, compacted once: a header, and a base of one record.
 const COMPACTED: &[u8] =

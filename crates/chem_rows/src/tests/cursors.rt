@@ -1,9 +1,9 @@
 //! Commits, pins, pages and prunings.
-use super::{MEM, Made, Script, check};
+use super::{MEM, Made, Script, check, check_each};
 use std::alloc::{AllocError, Global};
 use std::test::Fail;
 
-pub(super) const SCRIPTS: &[Script] = &[
+const SCRIPTS: &[Script] = &[
     (
         "states of an identifier",
         MEM,
@@ -168,6 +168,11 @@ pub(super) const SCRIPTS: &[Script] = &[
         ",
     ),
 ];
+
+#[test]
+fn scripts(rt: HostRuntime) -> Result<(), Fail> {
+    check_each(&rt, rt.alloc(), SCRIPTS)
+}
 
 pub(super) const MADE: &[Made] = &[
     (

@@ -1,8 +1,9 @@
 //! Drills: sessions on a store in memory whose disks are stopped, failed and reopened.
 
-use super::Script;
+use super::{Script, check_each};
+use std::test::Fail;
 
-pub(super) const SCRIPTS: &[Script] = &[
+const SCRIPTS: &[Script] = &[
     (
         "what a crash leaves",
         &["drill"],
@@ -83,3 +84,8 @@ pub(super) const SCRIPTS: &[Script] = &[
         ",
     ),
 ];
+
+#[test]
+fn scripts(rt: HostRuntime) -> Result<(), Fail> {
+    check_each(&rt, rt.alloc(), SCRIPTS)
+}

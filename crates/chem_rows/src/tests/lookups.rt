@@ -1,5 +1,6 @@
 //! Lookups: what is the same structure, and what is most similar.
-use super::{MEM, Made, Script};
+use super::{MEM, Made, Script, check_each};
+use std::test::Fail;
 
 const ETHANOL: &str = "\
         > register 1 OCC\n\
@@ -50,7 +51,7 @@ const METHANOL: &str = "\
         < stats version 4 live 4 withdrawn 0 kept 4 pins 0\n\
         ";
 
-pub(super) const SCRIPTS: &[Script] = &[
+const SCRIPTS: &[Script] = &[
     ("ethanol written in two ways is the same", MEM, ETHANOL),
     ("the same, page by page", &["mem", "--page", "1"], ETHANOL),
     (
@@ -193,6 +194,11 @@ pub(super) const SCRIPTS: &[Script] = &[
         ",
     ),
 ];
+
+#[test]
+fn scripts(rt: HostRuntime) -> Result<(), Fail> {
+    check_each(&rt, rt.alloc(), SCRIPTS)
+}
 
 pub(super) const MADE: &[Made] = &[(
     "a lookup takes a pin, and 64 are held",

@@ -1,9 +1,9 @@
 //! Patterns: what they find, what is tried, and what is refused.
 
-use super::{MEM, Script, check};
+use super::{MEM, Script, check, check_each};
 use std::test::Fail;
 
-pub(super) const SCRIPTS: &[Script] = &[
+const SCRIPTS: &[Script] = &[
     (
         "each identifier once, ascending, though the pattern embeds in many ways",
         MEM,
@@ -296,6 +296,11 @@ pub(super) const SCRIPTS: &[Script] = &[
         ",
     ),
 ];
+
+#[test]
+fn scripts(rt: HostRuntime) -> Result<(), Fail> {
+    check_each(&rt, rt.alloc(), SCRIPTS)
+}
 
 // A group so many times, a part so many times, and the hits.
 const MANY: &[(&str, usize, &str, usize, u32)] = &[

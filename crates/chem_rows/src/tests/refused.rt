@@ -1,8 +1,8 @@
 //! Lines that are refused, and those behind them.
-use super::{MEM, Made, Piece, Script, Ways, answers, made};
+use super::{MEM, Made, Piece, Script, Ways, answers, check_each, made};
 use std::test::Fail;
 
-pub(super) const SCRIPTS: &[Script] = &[(
+const SCRIPTS: &[Script] = &[(
     "refused lines",
     MEM,
     "\
@@ -88,6 +88,11 @@ pub(super) const SCRIPTS: &[Script] = &[(
         < refused molfile cut\n\
         ",
 )];
+
+#[test]
+fn scripts(rt: HostRuntime) -> Result<(), Fail> {
+    check_each(&rt, rt.alloc(), SCRIPTS)
+}
 
 pub(super) const MADE: &[Made] = &[(
     "lines that nest as deep as they are long",

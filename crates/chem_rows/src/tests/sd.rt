@@ -1,8 +1,8 @@
 //! Records of SD files, and their data items.
-use super::{MEM, Made, PLAIN, Piece, Script, answers, made};
+use super::{MEM, Made, PLAIN, Piece, Script, answers, check_each, made};
 use std::test::Fail;
 
-pub(super) const SCRIPTS: &[Script] = &[
+const SCRIPTS: &[Script] = &[
     (
         "an acetate with its name and one without an end",
         MEM,
@@ -173,6 +173,11 @@ pub(super) const SCRIPTS: &[Script] = &[
         ",
     ),
 ];
+
+#[test]
+fn scripts(rt: HostRuntime) -> Result<(), Fail> {
+    check_each(&rt, rt.alloc(), SCRIPTS)
+}
 
 // A molfile of one atom, by its header line.
 const OXYGEN: &[u8] = b"

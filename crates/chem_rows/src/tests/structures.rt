@@ -1,7 +1,7 @@
 //! Structures: their texts, rings and aromatic atoms.
 ghost use Rattle.std.specs.Prelude.{◌<◌};
 
-use super::{Answer, MEM, PLAIN, Script, call, put_by};
+use super::{Answer, MEM, PLAIN, Script, call, check_each, put_by};
 use aromatic::perceive;
 use ring_find::rings;
 use smiles_read::read_smiles;
@@ -11,7 +11,7 @@ use std::test::Fail;
 use std::thread::Threads;
 use valence::{fill_hydrogens, suppress};
 
-pub(super) const SCRIPTS: &[Script] = &[
+const SCRIPTS: &[Script] = &[
     (
         "texts of structures",
         MEM,
@@ -93,6 +93,11 @@ pub(super) const SCRIPTS: &[Script] = &[
         ",
     ),
 ];
+
+#[test]
+fn scripts(rt: HostRuntime) -> Result<(), Fail> {
+    check_each(&rt, rt.alloc(), SCRIPTS)
+}
 
 // A structure is registered, and a pattern searched.
 fn search<R: Threads + Wait + Sync>(

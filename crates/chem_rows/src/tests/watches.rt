@@ -1,7 +1,8 @@
 //! Standing searches: what is watched, what commits do to its hits, and when they are searched anew.
-use super::{MEM, Made, Script};
+use super::{MEM, Made, Script, check_each};
+use std::test::Fail;
 
-pub(super) const SCRIPTS: &[Script] = &[
+const SCRIPTS: &[Script] = &[
     (
         "own commits move a watch",
         MEM,
@@ -197,6 +198,11 @@ pub(super) const SCRIPTS: &[Script] = &[
         ",
     ),
 ];
+
+#[test]
+fn scripts(rt: HostRuntime) -> Result<(), Fail> {
+    check_each(&rt, rt.alloc(), SCRIPTS)
+}
 
 pub(super) const MADE: &[Made] = &[
     (
