@@ -70,11 +70,9 @@ pub half_of_smaller : (n : ℕ) (h : Half) → n ≤ 1 → IsHalfOf n h → IsSm
 half_of_smaller n h few half = one_small half.0 h (let e = half.1 in omega arith) half.2
 
 -- what a sum of products with what is below the prime is at most
-pub weighed_small : (h w : ℕ) → h ≤ 50000000000000 → h * (w % 65521) ≤ 3276050000000000000
-weighed_small h w few =
-    let x : ℕ = w % 65521 in
-    let low : x ≤ 65520 = omega arith in
-    let product : h * x ≤ 50000000000000 * x = mul-le-mul_right x few in
+pub weighed_small : (h w : ℕ) → h ≤ 50000000000000 → w < 65521 → h * w ≤ 3276050000000000000
+weighed_small h w few low =
+    let product : h * w ≤ 50000000000000 * w = mul-le-mul_right w few in
     omega arith
 
 pub middle_small : (s w : ℕ) → s ≤ 33660 → w < 65521 → s * w ≤ 2300000000

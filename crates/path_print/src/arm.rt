@@ -80,10 +80,12 @@ pub fn bit_between(first: &Half, label: (u8, u8), last: &Half, before: usize, be
         → IsHalf ks last.now → result ≡ bit_of (through js label ks) (through ks label js) }
     ensures small { result < 1024 }
 {
+    let there = sum_through(first, label, last, behind);
+    let back = sum_through(last, label, first, before);
     if is_back_lesser(first, label, last, before, behind) {
-        bit_through(last, label, first, before)
+        bit_from(back)
     } else {
-        bit_through(first, label, last, behind)
+        bit_from(there)
     }
 }
 
@@ -109,19 +111,17 @@ fn is_back_lesser(first: &Half, label: (u8, u8), last: &Half, before: usize, beh
     }
 }
 
-// The bit of the string from the first arm to the last, which has so many atoms.
+// What the hash of the string from the first arm to the last, which has so many atoms, is the remainder of.
 #[inline(always)]
-fn bit_through(first: &Half, label: (u8, u8), last: &Half, behind: usize) -> u16
+fn sum_through(first: &Half, label: (u8, u8), last: &Half, behind: usize) -> u64
     requires first { (n : ℕ) × (n ≤ LONGEST) × IsHalfOf n first.now }
     requires last { IsHalfOf behind last.now }
     requires short { behind ≤ LONGEST }
-    ensures value { (js ks : List Joint) → IsHalf js first.now → length ks ≡ behind → IsHalf ks last.now
-        → result ≡ hash_of (through js label ks) % 1024 }
-    ensures small { result < 1024 }
+    ensures { (js ks : List Joint) → IsHalf js first.now → length ks ≡ behind → IsHalf ks last.now
+        → result % 65521 ≡ hash_of (through js label ks) }
 {
-    let weight = weight_of(behind);
-    let middle = sum_of(0, label.0, label.1) * weight;
-    bit_from(first.head * (weight * FACTOR * FACTOR % PRIME) + middle + last.tail)
+    let middle = sum_of(0, label.0, label.1) * weight_of(behind);
+    first.head * shift_of(behind) + middle + last.tail
 }
 
 // What the bytes before an arm of so many atoms are multiplied by, in a hash.
@@ -135,6 +135,20 @@ fn weight_of(atoms: usize) -> u64
         0 => 1,
         1 => CUBE % PRIME,
         _ => CUBE * CUBE % PRIME,
+    }
+}
+
+// The same with the two bytes of a label between.
+#[inline(always)]
+fn shift_of(atoms: usize) -> u64
+    requires { atoms ≤ LONGEST }
+    ensures value { result ≡ 131 ^ (3 * atoms) % 65521 * 131 * 131 % 65521 }
+    ensures small { result < 65521 }
+{
+    match atoms {
+        0 => FACTOR * FACTOR,
+        1 => CUBE % PRIME * FACTOR * FACTOR % PRIME,
+        _ => CUBE * CUBE % PRIME * FACTOR * FACTOR % PRIME,
     }
 }
 
