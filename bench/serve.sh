@@ -3,6 +3,7 @@
 # searches a second of four ends, without and with a fifth end that commits durably, and how long each end waits for its
 # first reply after the store was loaded; searches with one and with four workers; registrations a second of one end and of
 # four; and the processor time that an end spends which waits for its turn behind commits.
+# Each is the quickest of three runs, but for the loading. It calls the program as ./chemdb does, in pages of 2 MiB.
 # Usage: bench/serve.sh [STRUCTURES [FOLDER]]
 set -euo pipefail
 cd "$(dirname "${BASH_SOURCE[0]}")/.."
@@ -11,12 +12,13 @@ python3 - "${1:-100000}" "${2:-/dev/shm}" <<'PY'
 import os
 import random
 import resource
+import shutil
 import subprocess
 import sys
 import tempfile
 import time
 
-PROGRAM = os.path.abspath("crates/chemdb/out/chemdb")
+PROGRAM = os.path.abspath("chemdb")
 PATTERNS = """
 c1ccc2ccccc2c1  [$([CX4]);!$(C[!#6])]~[#6]~[$([#6]=[#6]),c]  [$([NX3;H2]),$([NX3;H1]);!$(NC=O);!$(NS(=O)=O)]  CCCCCCCCCCCC
 c1ccc(cc1)-c1ccccc1  c1ccccc1  *~*~*~*~*~*~*~*  C=O  C1CCC2C(C1)CCC1C2CCC2CCCC12  [$(C(=O)N)]  [r7]  c1ccncc1
@@ -45,8 +47,8 @@ def texts(count, seed):
 
 
 def serve(folder, scripts, *words):
-    """Serves the scripts; gives the seconds from the first reply of any end to the exit, how long after it each end had its
-    first reply, and the program's processor seconds."""
+    """Serves the scripts; gives the seconds from the first reply of any end to the last one, how long after it each end had
+    its first reply, and the program's processor seconds until its exit."""
     names = []
     for number, lines in enumerate(scripts):
         name = f"{folder}/script{number}"
@@ -57,18 +59,26 @@ def serve(folder, scripts, *words):
             os.remove(name + ".out")
     before = resource.getrusage(resource.RUSAGE_CHILDREN)
     process = subprocess.Popen([PROGRAM, "serve", f"{folder}/store", *names, *words])
-    firsts = {}
-    while process.poll() is None:
+    firsts, sizes, last = {}, dict.fromkeys(names, 0), 0
+    ended = False
+    while not ended:
+        ended = process.poll() is not None
         for name in names:
-            if name not in firsts and os.path.exists(name + ".out") and os.path.getsize(name + ".out") > 0:
-                firsts[name] = time.monotonic()
+            size = os.path.getsize(name + ".out") if os.path.exists(name + ".out") else 0
+            if size > sizes[name]:
+                sizes[name], last = size, time.monotonic()
+                firsts.setdefault(name, last)
         time.sleep(0.001)
-    end = time.monotonic()
     after = resource.getrusage(resource.RUSAGE_CHILDREN)
     assert process.returncode == 0, process.returncode
     begin = min(firsts.values())
     used = after.ru_utime + after.ru_stime - before.ru_utime - before.ru_stime
-    return end - begin, [firsts[name] - begin for name in names], used
+    return last - begin, [firsts[name] - begin for name in names], used
+
+
+def best(run):
+    """The quickest of three runs."""
+    return min((run() for _ in range(3)), key=lambda done: done[0])
 
 
 def searches(rounds):
@@ -84,24 +94,31 @@ with tempfile.TemporaryDirectory(dir=FOLDER) as folder:
     assert loaded.stdout.endswith(f"ok {COUNT}\n".encode()), "a text was refused"
     print(f"one end, loading {COUNT} structures: {COUNT / (time.monotonic() - start):,.0f} registrations a second")
 
-    one, _, _ = serve(folder, [searches(1)])
-    four, _, _ = serve(folder, [searches(1)], "--workers", "4")
+    one, _, _ = best(lambda: serve(folder, [searches(1)]))
+    four, _, _ = best(lambda: serve(folder, [searches(1)], "--workers", "4"))
     print(f"34 searches, one end: {one:.2f} s with one worker, {four:.2f} s with four")
 
-    alone, firsts, _ = serve(folder, [searches(2)] * 4)
+    alone, firsts, _ = best(lambda: serve(folder, [searches(2)] * 4))
     print(f"four ends: {4 * 2 * 34 / alone:,.0f} searches a second; first replies within {max(firsts) * 1000:.0f} ms")
+    shutil.copy(store, f"{folder}/full")
     writes = [f"register {COUNT + i + 1} {text}" for i, text in enumerate(texts(20000, 2))]
-    beside, firsts, _ = serve(folder, [searches(2)] * 4 + [writes])
+
+    def serve_beside():
+        shutil.copy(f"{folder}/full", store)
+        return serve(folder, [searches(2)] * 4 + [writes])
+
+    beside, firsts, _ = best(serve_beside)
     print(f"beside an end that registers: {4 * 2 * 34 / beside:,.0f} searches a second and "
           f"{len(writes) / beside:,.0f} registrations; first replies within {max(firsts) * 1000:.0f} ms")
-
-    os.remove(store)
-    subprocess.run([PROGRAM, "init", store], check=True)
     lines = [f"register {i + 1} {text}" for i, text in enumerate(texts(40000, 3))]
-    one, _, _ = serve(folder, [lines])
-    os.remove(store)
-    subprocess.run([PROGRAM, "init", store], check=True)
-    four, _, used = serve(folder, [lines[part::4] for part in range(4)])
+
+    def serve_new(parts):
+        os.remove(store)
+        subprocess.run([PROGRAM, "init", store], check=True)
+        return serve(folder, [lines[part::parts] for part in range(parts)])
+
+    one, _, _ = best(lambda: serve_new(1))
+    four, _, used = best(lambda: serve_new(4))
     print(f"40,000 registrations: {40000 / one:,.0f} a second by one end, {40000 / four:,.0f} by four; "
           f"these used {used / four:.1f} processors")
 PY
