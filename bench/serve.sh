@@ -1,9 +1,9 @@
 #!/usr/bin/env bash
 # Serves scripts at the same time over one store, in a file of FOLDER (/dev/shm, a disk in memory, if left out), and prints:
-# searches a second of four ends, without and with a fifth end that commits durably, and how long each end waits for its
-# first reply after the store was loaded; searches with one and with four workers; registrations a second of one end and of
-# four; and the processor time that an end spends which waits for its turn behind commits.
-# Each is the quickest of three runs, but for the loading. It calls the program as ./chemdb does, in pages of 2 MiB.
+# searches a second of four ends, without and with a fifth end that commits durably all the while, and how long each end
+# waits for its first reply after the store was loaded; searches with one and with four workers; registrations a second of one
+# end and of four, and how many processors these use. Each is the quickest of three runs, but for the loading. The program is
+# called as users call it, by ./chemdb.
 # Usage: bench/serve.sh [STRUCTURES [FOLDER]]
 set -euo pipefail
 cd "$(dirname "${BASH_SOURCE[0]}")/.."
@@ -39,6 +39,8 @@ CORES = [
 ]
 PARTS = ["C", "CC", "CCO", "c9ccccc9", "CC(=O)O", "CCN(C)C", "C9CC9", "CC(F)(F)F", "Cc9ccncc9", "CCC#N", "CS(C)(=O)=O", "CCBr"]
 COUNT, FOLDER = int(sys.argv[1]), sys.argv[2]
+# more than one end registers while four search
+WRITES = 100000
 
 
 def texts(count, seed):
@@ -47,8 +49,8 @@ def texts(count, seed):
 
 
 def serve(folder, scripts, *words):
-    """Serves the scripts; gives the seconds from the first reply of any end to the last one, how long after it each end had
-    its first reply, and the program's processor seconds until its exit."""
+    """Serves the scripts; gives for each end the seconds from the first reply of any end to its own first and last one, how
+    many replies the last end had when the others had all of theirs, and how many processors were used from start to exit."""
     names = []
     for number, lines in enumerate(scripts):
         name = f"{folder}/script{number}"
@@ -57,28 +59,31 @@ def serve(folder, scripts, *words):
         names.append(name)
         if os.path.exists(name + ".out"):
             os.remove(name + ".out")
-    before = resource.getrusage(resource.RUSAGE_CHILDREN)
+    before, start = resource.getrusage(resource.RUSAGE_CHILDREN), time.monotonic()
     process = subprocess.Popen([PROGRAM, "serve", f"{folder}/store", *names, *words])
-    firsts, sizes, last = {}, dict.fromkeys(names, 0), 0
+    firsts, lasts, sizes, size_then = {}, {}, dict.fromkeys(names, 0), 0
     ended = False
     while not ended:
         ended = process.poll() is not None
         for name in names:
             size = os.path.getsize(name + ".out") if os.path.exists(name + ".out") else 0
             if size > sizes[name]:
-                sizes[name], last = size, time.monotonic()
-                firsts.setdefault(name, last)
+                sizes[name], lasts[name] = size, time.monotonic()
+                firsts.setdefault(name, lasts[name])
+                size_then = size_then if name == names[-1] else sizes[names[-1]]
         time.sleep(0.001)
-    after = resource.getrusage(resource.RUSAGE_CHILDREN)
+    after, seconds = resource.getrusage(resource.RUSAGE_CHILDREN), time.monotonic() - start
     assert process.returncode == 0, process.returncode
+    with open(names[-1] + ".out", "rb") as replies:
+        then = replies.read(size_then).count(b"\n")
     begin = min(firsts.values())
-    used = after.ru_utime + after.ru_stime - before.ru_utime - before.ru_stime
-    return last - begin, [firsts[name] - begin for name in names], used
+    used = (after.ru_utime + after.ru_stime - before.ru_utime - before.ru_stime) / seconds
+    return [firsts[name] - begin for name in names], [lasts[name] - begin for name in names], then, used
 
 
-def best(run):
-    """The quickest of three runs."""
-    return min((run() for _ in range(3)), key=lambda done: done[0])
+def best(ends, run):
+    """Of three runs the one in which so many ends had their replies soonest: how long that took, and the run."""
+    return min((max(done[1][:ends]), done) for done in (run() for _ in range(3)))
 
 
 def searches(rounds):
@@ -94,22 +99,23 @@ with tempfile.TemporaryDirectory(dir=FOLDER) as folder:
     assert loaded.stdout.endswith(f"ok {COUNT}\n".encode()), "a text was refused"
     print(f"one end, loading {COUNT} structures: {COUNT / (time.monotonic() - start):,.0f} registrations a second")
 
-    one, _, _ = best(lambda: serve(folder, [searches(1)]))
-    four, _, _ = best(lambda: serve(folder, [searches(1)], "--workers", "4"))
+    one, _ = best(1, lambda: serve(folder, [searches(1)]))
+    four, _ = best(1, lambda: serve(folder, [searches(1)], "--workers", "4"))
     print(f"34 searches, one end: {one:.2f} s with one worker, {four:.2f} s with four")
 
-    alone, firsts, _ = best(lambda: serve(folder, [searches(2)] * 4))
+    alone, (firsts, _, _, _) = best(4, lambda: serve(folder, [searches(2)] * 4))
     print(f"four ends: {4 * 2 * 34 / alone:,.0f} searches a second; first replies within {max(firsts) * 1000:.0f} ms")
     shutil.copy(store, f"{folder}/full")
-    writes = [f"register {COUNT + i + 1} {text}" for i, text in enumerate(texts(20000, 2))]
+    writes = [f"register {COUNT + i + 1} {text}" for i, text in enumerate(texts(WRITES, 2))]
 
     def serve_beside():
         shutil.copy(f"{folder}/full", store)
         return serve(folder, [searches(2)] * 4 + [writes])
 
-    beside, firsts, _ = best(serve_beside)
+    beside, (firsts, _, then, _) = best(4, serve_beside)
+    assert then < WRITES, "the end that registers ended too soon"
     print(f"beside an end that registers: {4 * 2 * 34 / beside:,.0f} searches a second and "
-          f"{len(writes) / beside:,.0f} registrations; first replies within {max(firsts) * 1000:.0f} ms")
+          f"{then / beside:,.0f} registrations; first replies within {max(firsts) * 1000:.0f} ms")
     lines = [f"register {i + 1} {text}" for i, text in enumerate(texts(40000, 3))]
 
     def serve_new(parts):
@@ -117,8 +123,8 @@ with tempfile.TemporaryDirectory(dir=FOLDER) as folder:
         subprocess.run([PROGRAM, "init", store], check=True)
         return serve(folder, [lines[part::parts] for part in range(parts)])
 
-    one, _, _ = best(lambda: serve_new(1))
-    four, _, used = best(lambda: serve_new(4))
+    one, _ = best(1, lambda: serve_new(1))
+    four, (_, _, _, used) = best(4, lambda: serve_new(4))
     print(f"40,000 registrations: {40000 / one:,.0f} a second by one end, {40000 / four:,.0f} by four; "
-          f"these used {used / four:.1f} processors")
+          f"these used {used:.1f} processors")
 PY
