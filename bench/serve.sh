@@ -1,9 +1,10 @@
 #!/usr/bin/env bash
 # Serves scripts at the same time over one store, in a file of FOLDER (/dev/shm, a disk in memory, if left out), and prints:
-# searches a second of four ends, without and with a fifth end that commits durably all the while, and how long each end
-# waits for its first reply after the store was loaded; searches with one and with four workers; registrations a second of one
-# end and of four, and how many processors these use. Each is the quickest of three runs, but for the loading. The program is
-# called as users call it, by ./chemdb.
+# searches a second of four ends, without and with a fifth end that commits durably all the while, how many structures they
+# try a second, since a store that grows has more for each search to try, and how long each end waits for its first reply
+# after the store was loaded; searches with one and with four workers; registrations a second of one end and of four, and how
+# many processors these use. Each is the quickest of three runs, but for the loading. The program is called as users call it,
+# by ./chemdb.
 # Usage: bench/serve.sh [STRUCTURES [FOLDER]]
 set -euo pipefail
 cd "$(dirname "${BASH_SOURCE[0]}")/.."
@@ -17,6 +18,7 @@ import subprocess
 import sys
 import tempfile
 import time
+from typing import NamedTuple
 
 PROGRAM = os.path.abspath("chemdb")
 PATTERNS = """
@@ -48,9 +50,25 @@ def texts(count, seed):
     return [draw.choice(CORES).format(draw.choice(PARTS)) for _ in range(count)]
 
 
+class Served(NamedTuple):
+    """Of each end the seconds from the first reply of any end to its own first and last one, and how many structures it
+    tried; how many replies the last end had when the others had all of theirs; and how many processors were used."""
+
+    firsts: list
+    lasts: list
+    tried: list
+    then: int
+    used: float
+
+
+def tried_by(name):
+    """How many structures the searches of an end tried, by its replies: "end at VERSION tried COUNT hits COUNT"."""
+    with open(name + ".out", encoding="utf-8") as replies:
+        return sum(int(line.split()[4]) for line in replies if line.startswith("end at "))
+
+
 def serve(folder, scripts, *words):
-    """Serves the scripts; gives for each end the seconds from the first reply of any end to its own first and last one, how
-    many replies the last end had when the others had all of theirs, and how many processors were used from start to exit."""
+    """Serves the scripts."""
     names = []
     for number, lines in enumerate(scripts):
         name = f"{folder}/script{number}"
@@ -78,12 +96,13 @@ def serve(folder, scripts, *words):
         then = replies.read(size_then).count(b"\n")
     begin = min(firsts.values())
     used = (after.ru_utime + after.ru_stime - before.ru_utime - before.ru_stime) / seconds
-    return [firsts[name] - begin for name in names], [lasts[name] - begin for name in names], then, used
+    return Served([firsts[name] - begin for name in names], [lasts[name] - begin for name in names],
+                  [tried_by(name) for name in names], then, used)
 
 
 def best(ends, run):
     """Of three runs the one in which so many ends had their replies soonest: how long that took, and the run."""
-    return min((max(done[1][:ends]), done) for done in (run() for _ in range(3)))
+    return min((max(done.lasts[:ends]), done) for done in (run() for _ in range(3)))
 
 
 def searches(rounds):
@@ -103,8 +122,9 @@ with tempfile.TemporaryDirectory(dir=FOLDER) as folder:
     four, _ = best(1, lambda: serve(folder, [searches(1)], "--workers", "4"))
     print(f"34 searches, one end: {one:.2f} s with one worker, {four:.2f} s with four")
 
-    alone, (firsts, _, _, _) = best(4, lambda: serve(folder, [searches(2)] * 4))
-    print(f"four ends: {4 * 2 * 34 / alone:,.0f} searches a second; first replies within {max(firsts) * 1000:.0f} ms")
+    alone, done = best(4, lambda: serve(folder, [searches(2)] * 4))
+    print(f"four ends: {4 * 2 * 34 / alone:,.0f} searches a second, which try {sum(done.tried) / alone:,.0f} structures; "
+          f"first replies within {max(done.firsts) * 1000:.0f} ms")
     shutil.copy(store, f"{folder}/full")
     writes = [f"register {COUNT + i + 1} {text}" for i, text in enumerate(texts(WRITES, 2))]
 
@@ -112,10 +132,11 @@ with tempfile.TemporaryDirectory(dir=FOLDER) as folder:
         shutil.copy(f"{folder}/full", store)
         return serve(folder, [searches(2)] * 4 + [writes])
 
-    beside, (firsts, _, then, _) = best(4, serve_beside)
-    assert then < WRITES, "the end that registers ended too soon"
-    print(f"beside an end that registers: {4 * 2 * 34 / beside:,.0f} searches a second and "
-          f"{then / beside:,.0f} registrations; first replies within {max(firsts) * 1000:.0f} ms")
+    beside, done = best(4, serve_beside)
+    assert done.then < WRITES, "the end that registers ended too soon"
+    print(f"beside an end that registers: {4 * 2 * 34 / beside:,.0f} searches a second, which try "
+          f"{sum(done.tried) / beside:,.0f} structures, and {done.then / beside:,.0f} registrations; "
+          f"first replies within {max(done.firsts) * 1000:.0f} ms")
     lines = [f"register {i + 1} {text}" for i, text in enumerate(texts(40000, 3))]
 
     def serve_new(parts):
@@ -124,7 +145,7 @@ with tempfile.TemporaryDirectory(dir=FOLDER) as folder:
         return serve(folder, [lines[part::parts] for part in range(parts)])
 
     one, _ = best(1, lambda: serve_new(1))
-    four, (_, _, _, used) = best(4, lambda: serve_new(4))
+    four, done = best(4, lambda: serve_new(4))
     print(f"40,000 registrations: {40000 / one:,.0f} a second by one end, {40000 / four:,.0f} by four; "
-          f"these used {used:.1f} processors")
+          f"these used {done.used:.1f} processors")
 PY

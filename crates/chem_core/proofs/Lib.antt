@@ -10,3 +10,4 @@ pub mod InTurn
 pub mod Steps
 pub mod StepsFilled
 pub mod StepsSorted
+pub mod Codes

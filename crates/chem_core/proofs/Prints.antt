@@ -1,11 +1,11 @@
 -- The bits of a print and its words: a bit by its place, one more bit set, and when each bit of one is in another.
-use Rattle.std.proofs.Common.{ℕ, suc, ◌+◌, ◌-◌, ◌*◌, ◌/◌, ◌%◌, ◌^◌, ◌<◌, ◌≤◌, ◌≡◌, ◌≢◌, inl, inr, true, false, eqb, min, w64, replicate, List, [], ◌∷◌, length, get_or, set, bit_and, bit_or, refl, sym, ap, ◌∙◌, arith, zero-add}
-use Rattle.std.specs.Int.{bit_at}
+use Rattle.std.proofs.Common.{ℕ, suc, ◌+◌, ◌-◌, ◌*◌, ◌/◌, ◌%◌, ◌^◌, ◌<◌, ◌≤◌, ◌≡◌, ◌≢◌, ◌↔◌, inl, inr, true, false, eqb, min, max, w64, replicate, List, [], ◌∷◌, length, get_or, set, bit_and, bit_or, refl, sym, ap, ◌∙◌, arith, zero-add}
+use Rattle.std.specs.Int.{bit_at, bit_not}
 use Rattle.std.proofs.lemmas.Bool.{cases_lt, cases_eq, false≢true}
 use Rattle.std.proofs.lemmas.Bool.Decides.{nat_tests}
 use Rattle.std.proofs.lemmas.List.{length-append, length-set, get_or_append_left, get_or-append_right, get_or-set_same, get_or-set_other, get_or_past, get_or-replicate, length-replicate, ext_get_or}
 use Rattle.std.proofs.lemmas.List.FromFn.{get_or-map-range_with_len}
-use Rattle.std.proofs.lemmas.Nat.Bits.{bit_at-zero, bit_at-lt, bit_at_above, bit_at_and, bit_at_set_same, bit_at_set_other, shr_and_one, same_from_bits}
+use Rattle.std.proofs.lemmas.Nat.Bits.{bit_at-zero, bit_at-lt, bit_at_above, bit_at_and, bit_at_set_same, bit_at_or, bit_at_not, bit_at_set_other, shr_and_one, same_from_bits}
 use Rattle.chem_core.specs.Bits.{HasBit}
 use Rattle.chem_core.specs.Words.{word_bits, bits_of}
 
@@ -134,3 +134,48 @@ words_from_bits have want fit h k within =
           let none = bit_at_above (get_or want k 0) 64 i (fit k within) high in
           omega arith
     ])
+
+-- no bit of a word is lacked by another exactly where the other has all its bits
+pub lacks-none : (have want : ℕ) → have < 2 ^ 64 → want < 2 ^ 64
+    → bit_and want (bit_not w64 have) ≡ 0 ↔ bit_and have want ≡ want
+lacks-none have want fits fit =
+    let lacked : (i : ℕ) → i < 64 → bit_at (bit_and want (bit_not w64 have)) i
+    ≡ min (bit_at want i) (1 - bit_at have i) = λ i low.
+    bit_at_and want (bit_not w64 have) i ∙ ap (λ b. min (bit_at want i) b) (bit_at_not w64 have i fits low) in
+    let above : (i : ℕ) → 64 ≤ i → bit_at want i ≡ 0 = λ i high. bit_at_above want 64 i fit high in (
+      λ none. same_from_bits _ _ (λ i. bit_at_and have want i ∙ elim (cases_lt i 64) [
+        | inl low ↦
+            let zero : bit_at (bit_and want (bit_not w64 have)) i ≡ 0 = ap (λ n. bit_at n i) none ∙ bit_at-zero i in
+            omega (arith, lacked i low, bit_at-lt have i, bit_at-lt want i)
+        | inr high ↦ omega (arith, above i high)
+      ]),
+      λ all. same_from_bits _ _ (λ i. elim (cases_lt i 64) [
+        | inl low ↦
+            let both : min (bit_at have i) (bit_at want i) ≡ bit_at want i =
+            sym (bit_at_and have want i) ∙ ap (λ n. bit_at n i) all in
+            lacked i low ∙ omega (arith, bit_at-lt have i, bit_at-lt want i) ∙ sym (bit_at-zero i)
+        | inr high ↦
+            bit_at_and want (bit_not w64 have) i ∙ omega (arith, above i high) ∙ sym (bit_at-zero i)
+      ]),
+    )
+
+-- two words have no bit exactly where their union has none
+none-in-both : (a b : ℕ) → bit_or a b ≡ 0 ↔ (a ≡ 0) × (b ≡ 0)
+none-in-both a b = (
+  λ none.
+      let bits : (i : ℕ) → max (bit_at a i) (bit_at b i) ≡ 0 = λ i.
+      sym (bit_at_or a b i) ∙ ap (λ n. bit_at n i) none ∙ bit_at-zero i in (
+        same_from_bits a 0 (λ i. omega (arith, bits i) ∙ sym (bit_at-zero i)),
+        same_from_bits b 0 (λ i. omega (arith, bits i) ∙ sym (bit_at-zero i)),
+      ),
+  λ none. rw (none.0, none.1) refl,
+)
+
+-- the same, with what it says of each that it has none
+pub both-lack-none : {P Q : Type 0} (a b : ℕ) → a ≡ 0 ↔ P → b ≡ 0 ↔ Q → bit_or a b ≡ 0 ↔ P × Q
+both-lack-none a b left right = (
+  λ none.
+      let each = (none-in-both a b).0 none in
+      (left.0 each.0, right.0 each.1),
+  λ each. (none-in-both a b).1 (left.1 each.0, right.1 each.1),
+)

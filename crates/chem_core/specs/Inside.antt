@@ -1,15 +1,18 @@
 -- What a molecule keeps about its fields. For private clauses alone.
-use Rattle.std.specs.Prelude.{◌≡◌, ℕ, ◌+◌, ◌<◌, ◌≤◌, ◌↔◌, ◌++◌, List, [], length, map, slice_index, slice_index_or, slice_range, IsPermutation}
+use Rattle.std.specs.Prelude.{◌≡◌, ℕ, ◌+◌, ◌*◌, ◌<◌, ◌≤◌, ◌↔◌, ◌++◌, Bool, false, List, [], length, map, None, Option, slice_get, slice_index, slice_index_or, slice_range, Some, true, IsPermutation}
+use Rattle.std.specs.Int.{bit_at}
 use Rattle.std.specs.List.Sorted.{IsNonDecreasing}
 use Rattle.chem_core.specs.declared.adjacency.Step.{Step}
 use Rattle.chem_core.specs.declared.mol.Atom.{Atom}
 use Rattle.chem_core.specs.declared.mol.AtomFacts.{AtomFacts}
 use Rattle.chem_core.specs.declared.mol.Bond.{Bond}
+use Rattle.chem_core.specs.declared.symbols.Symbols.{Symbols}
 use Rattle.chem_core.specs.Bits.{HasBit}
 use Rattle.chem_core.specs.Graph.{Ends, AreNeighbourLists, IsRingBond, degree}
 use Rattle.chem_core.specs.Molecule.{IsMolecule, bond_ends}
 use Rattle.chem_core.specs.RingFacts.{AreSmallestRings}
 use Rattle.chem_core.specs.Component.{AreComponents}
+use Rattle.chem_core.specs.Symbols.{HasClass}
 use Rattle.chem_core.specs.Words.{bits_of}
 
 -- where list k ends: where the next one starts, or at the end of all
@@ -37,9 +40,24 @@ pub record AreSortedBehind (before : List (ℕ × ℕ)) (steps : List Step) (aft
   pub same : IsPermutation (map (λ s. (s.to, s.bond)) steps) added
   pub ascending : IsNonDecreasing (map (λ p. p.0) added)
 
-pub record IsSoundInside (atoms : List Atom) (bonds : List Bond) (facts : List AtomFacts) (neighbours : List (ℕ × ℕ))
-    (ring_bonds : List ℕ) : Type 0 where
+-- a symbol as a byte, and another one where there is no atom
+abbrev pub code : ℕ → Bool → ℕ
+code number true = 2 * number + 1
+code number false = 2 * number
+
+abbrev pub code_in : Option Atom → ℕ
+code_in None = 255
+code_in (Some x) = code x.number x.aromatic
+
+-- the symbols of the first 64 atoms, and a bit for each class of an atom
+pub record AreSymbols (atoms : List Atom) (symbols : Symbols) : Type 0 where
+  pub codes : (i : ℕ) → i < 64 → slice_index symbols.codes i ≡ code_in (slice_get atoms i)
+  pub classes : (c : ℕ) → c < 64 → bit_at symbols.classes c ≡ 1 ↔ HasClass atoms c
+
+pub record IsSoundInside (atoms : List Atom) (bonds : List Bond) (symbols : Symbols) (facts : List AtomFacts)
+    (neighbours : List (ℕ × ℕ)) (ring_bonds : List ℕ) : Type 0 where
   pub molecule : IsMolecule (record { atoms = atoms; bonds = bonds })
+  pub coded : AreSymbols atoms symbols
   pub lists : AreNeighboursInTurn (bond_ends bonds) (length atoms) neighbours (map (λ f. f.first_neighbour) facts)
   pub rings : (b : ℕ) → b < length bonds → HasBit (bits_of ring_bonds) b ↔ IsRingBond (bond_ends bonds) b
   pub smallest : AreSmallestRings (length atoms) (bond_ends bonds) (map (λ f. f.smallest_ring) facts)

@@ -11,3 +11,4 @@ pub mod Words
 pub mod RingFacts
 pub mod Component
 pub mod Steps
+pub mod Symbols

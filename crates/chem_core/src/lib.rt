@@ -9,6 +9,7 @@ mod limits;
 mod mol;
 mod print;
 mod sketch;
+mod symbols;
 
 pub use adjacency::{Adjacency, Step};
 pub use element::{number_of, symbol_of};
@@ -16,3 +17,4 @@ pub use limits::{MOST_ATOMS, MOST_BONDS, MOST_NEIGHBOURS, are_few_neighbours};
 pub use mol::{Atom, Bond, BondKind, Mol, one_neighbour_list, same_component};
 pub use print::Print;
 pub use sketch::{Fill, Sketch, SketchAtom, SketchBond, SketchKind};
+pub use symbols::class;

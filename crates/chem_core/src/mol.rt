@@ -1,15 +1,18 @@
 //! Molecules: atoms and bonds as they are meant, each atom's neighbours, what lies on rings, and components.
 ghost use Rattle.std.specs.Prelude.{◌≡◌, ◌↔◌, ◌+◌, ◌<◌, ◌≤◌, ℕ, List, false, length, map, IsTrue, slice_index_or, IfOk, OnOk};
+ghost use Rattle.std.specs.Int.{bit_at};
 ghost use Rattle.chem_core.specs.Graph.{Ends, AreNeighbours, IsRingBond, IsSmallestRing, degree};
 ghost use Rattle.chem_core.specs.Molecule.{IsMolecule, bond_ends, ends_of};
 ghost use Rattle.chem_core.specs.Inside.{AreNeighboursInTurn, AreSortedBehind};
 ghost use Rattle.chem_core.specs.RingFacts.{AreRingBonds, AreSmallestRings};
 ghost use Rattle.chem_core.specs.Component.{Reaches, IsComponent, AreComponents};
+ghost use Rattle.chem_core.specs.Symbols.{HasClass, HasSymbolAt};
 ghost use Rattle.chem_core.specs.Words.{bits_of};
 
 use crate::adjacency::{Adjacency, Step};
 use crate::bits::{has_bit, set_bit};
 use crate::limits::MOST_BONDS;
+use crate::symbols::Symbols;
 use bumpalo::Bump;
 use smallvec::SmallVec;
 use std::alloc::{AllocError, Global};
@@ -72,6 +75,8 @@ struct AtomFacts {
 /// Contracts see it as its two lists.
 #[derive(Debug, Drop)]
 pub struct Mol {
+    // first, since a search reads no more of most molecules
+    symbols: Symbols,
     atoms: Vec<Atom>,
     bonds: Vec<Bond>,
     // what is worked out for each atom
@@ -91,7 +96,7 @@ impl Model for Mol {
 
     ghost use Rattle.chem_core.specs.Inside.{IsSoundInside};
 
-    ghost invariant = { λ m. IsSoundInside m.atoms.items m.bonds.items m.facts.items m.neighbours.items
+    ghost invariant = { λ m. IsSoundInside m.atoms.items m.bonds.items m.symbols m.facts.items m.neighbours.items
         m.ring_bonds.items };
 }
 
@@ -147,6 +152,7 @@ impl Mol {
         let (facts, neighbours) = in_turn(alloc, adjacency, &atom_small, &component)?;
         let ring_bonds = bond_set(alloc, &bond_in_ring)?;
         Ok(Mol {
+            symbols: Symbols::of(&atoms),
             atoms,
             bonds,
             facts,
@@ -169,6 +175,23 @@ impl Mol {
         ensures valid { IsMolecule self.now }
     {
         &self.bonds
+    }
+
+    /// Which of the first 64 atoms have a symbol, an atomic number and whether they are aromatic: a word with a bit for
+    /// each.
+    #[inline(always)]
+    pub fn symbol_word(&self, number: u8, aromatic: bool) -> u64
+        ensures { (i : ℕ) → i < 64 → bit_at result i ≡ 1 ↔ HasSymbolAt self.now.atoms i number aromatic }
+    {
+        self.symbols.word(number, aromatic)
+    }
+
+    /// The classes of the atoms: a word with a bit for each.
+    #[inline(always)]
+    pub fn classes(&self) -> u64
+        ensures { (c : ℕ) → c < 64 → bit_at result c ≡ 1 ↔ HasClass self.now.atoms c }
+    {
+        self.symbols.classes()
     }
 
     /// The neighbours of the atom at a place, each with the place of the bond to it, in ascending order.

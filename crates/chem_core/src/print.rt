@@ -1,6 +1,6 @@
 //! Fingerprints: one bit for each feature that a structure may have; most structures that lack what a pattern needs
 //! are ruled out by comparing sixteen words (Daylight Theory Manual, chapter Fingerprints).
-ghost use Rattle.std.specs.Prelude.{◌≡◌, ◌↔◌, ◌⊎◌, ℕ, ◌^◌, ◌<◌, ◌≤◌, true, length, slice_index, slice_set, bit_and, bit_or, EachIndex, IsTrue};
+ghost use Rattle.std.specs.Prelude.{◌≡◌, ◌↔◌, ◌⊎◌, ℕ, ◌+◌, ◌^◌, ◌<◌, ◌≤◌, true, length, slice_index, slice_set, bit_and, bit_or, EachIndex, IsTrue};
 ghost use Rattle.chem_core.specs.Bits.{HasBit, set_bits, shared_bits};
 ghost use Rattle.chem_core.specs.Words.{bits_of};
 
@@ -57,6 +57,13 @@ impl Print {
         covers(&self.words, &need.words)
     }
 
+    /// Whether no bit is set.
+    pub fn is_empty(&self) -> bool
+        ensures value { IsTrue result ↔ ((bit : ℕ) → ¬ HasBit self.now bit) }
+    {
+        Print::empty().holds(self)
+    }
+
     /// Sets each bit of another print as well.
     pub fn unite(&mut self, other: &Print)
         ensures value { (bit : ℕ) → HasBit self.new bit ↔ (HasBit self.old bit ⊎ HasBit other.now bit) }
@@ -82,20 +89,40 @@ impl Print {
     }
 }
 
-// Whether each word of `have` has all bits of the word of `want` at its place.
-fn covers(have: &[u64], want: &[u64]) -> bool
-    requires { length have.now ≡ length want.now }
+// Whether each word of `have` has all bits of the word of `want` at its place. Compares four words at once.
+fn covers(have: &[u64; 16], want: &[u64; 16]) -> bool
     ensures value { IsTrue result
         ↔ EachIndex want.now (λ k.
         bit_and (slice_index have.now k) (slice_index want.now k) ≡ slice_index want.now k) }
     ensures range { EachIndex want.now (λ k. slice_index want.now k < 2 ^ 64) }
 {
-    for (word, wanted) in have.iter().zip(want) {
-        if *word & *wanted != *wanted {
+    for group in 0..4 {
+        if lacked_by_four(have, want, 4 * group) != 0 {
             return false;
         }
     }
     true
+}
+
+// The bits that the four words of `have` from a place on lack, 0 where each has all bits of the word of `want`.
+#[inline(always)]
+fn lacked_by_four(have: &[u64; 16], want: &[u64; 16], place: usize) -> u64
+    requires { place + 4 ≤ 16 }
+    ensures { result ≡ 0 ↔ ((k : ℕ) → place ≤ k → k < place + 4
+        → bit_and (slice_index have.now k) (slice_index want.now k) ≡ slice_index want.now k) }
+{
+    lacked(have[place], want[place])
+        | lacked(have[place + 1], want[place + 1])
+        | lacked(have[place + 2], want[place + 2])
+        | lacked(have[place + 3], want[place + 3])
+}
+
+// The bits of a word that another one lacks.
+#[inline(always)]
+fn lacked(have: u64, want: u64) -> u64
+    ensures { result ≡ 0 ↔ bit_and have want ≡ want }
+{
+    want & !have
 }
 
 // Sets in each word the bits of the word of `more` at its place.

@@ -6,9 +6,9 @@ use Rattle.std.proofs.lemmas.Nat.Bits.{bit_at-lt, bit_at_and, bit_at_clear_other
 use Rattle.std.proofs.lemmas.Option.{slice_get_within}
 use Rattle.chem_core.specs.declared.mol.Atom.{Atom}
 use Rattle.chem_core.specs.Molecule.{Molecule}
+use Rattle.chem_core.specs.Symbols.{class_of}
 use Rattle.smarts_parse.specs.Pattern.{GraphTerm}
 use Rattle.matcher.specs.Candidates.{AreTruthsIn, IsCandidate}
-use Rattle.matcher.specs.Class.{class_of}
 use Rattle.matcher.specs.Partial.{CanComplete, IsSearchable, Parts}
 use Rattle.matcher.specs.Parts.{AreBeginnings}
 use Rattle.matcher.proofs.Lowest.{done_more, lower_none, lowest_is, other_bit, without}

@@ -1,17 +1,19 @@
 -- An expression is true only at atoms of its classes.
-use Rattle.std.proofs.Common.{◌≡◌, ◌⊎◌, ℕ, ◌<◌, take, Bool, true, false, bit_and, bit_or, List, length, get_or, slice_index, All, pos, Some, slice_get, sym, ap, ◌∙◌, subst, arith, inl, inr, refl}
+use Rattle.std.proofs.Common.{◌≡◌, ◌⊎◌, ℕ, ◌<◌, take, Bool, true, false, bit_and, bit_or, List, length, get_or, slice_index, pos, Some, slice_get, sym, ap, ◌∙◌, subst, arith, inl, inr, refl}
 use Rattle.std.specs.Int.{bit_at}
 use Rattle.std.proofs.lemmas.Nat.Bits.{bit_at_and, bit_at_or, bit_at_ones, bit_at-lt, bit_at-zero}
 use Rattle.std.proofs.lemmas.List.{get_or-take, length-take-le}
+use Rattle.std.proofs.lemmas.List.Elements.{Contains-get_or}
 use Rattle.std.proofs.lemmas.Option.{same_Some, slice_get-get_or}
 use Rattle.chem_core.specs.declared.mol.Atom.{Atom}
 use Rattle.chem_core.specs.Molecule.{Molecule}
+use Rattle.chem_core.specs.Symbols.{HasClass, class_at, class_of}
 use Rattle.smarts_parse.specs.declared.pattern.AtomPrim.{AtomPrim}
 use Rattle.smarts_parse.specs.declared.pattern.AtomPrim.TheVariants as atoms
 use Rattle.smarts_parse.specs.Embedding.{IsEmbedding}
 use Rattle.smarts_parse.specs.Pattern.{GraphTerm, Term, Prim, Not, And, Or}
 use Rattle.smarts_parse.specs.Truth.{AtomPrimTrue, AtomTrue}
-use Rattle.matcher.specs.Class.{class_at, class_of, Covers, MayBe, PrimMayBe}
+use Rattle.matcher.specs.Class.{Covers, MayBe, PrimMayBe}
 use Rattle.matcher.specs.declared.plan.EarlierBonds.{EarlierBonds}
 use Rattle.matcher.specs.Partial.{Parts}
 use Rattle.matcher.specs.Plan.{IsReady, step_at}
@@ -79,18 +81,20 @@ stands_at parts g m steps image place atom ready few h is =
 
 -- no embedding, where none of the molecule's atoms is of a class of some step
 pub no_atom : (parts : Parts) (g : GraphTerm) (m : Molecule) (steps : List EarlierBonds) (n k present : ℕ) → IsReady g steps
-    → n ≡ length g.atoms → k < length (take n steps) → All (λ x. bit_at present (class_of x) ≡ 1) m.atoms
+    → n ≡ length g.atoms → k < length (take n steps) → ((c : ℕ) → c < 64 → HasClass m.atoms c → bit_at present c ≡ 1)
     → bit_and (step_at (take n steps) k).classes present ≡ 0 → (image : List ℕ) → IsEmbedding parts g m image → ⊥
 no_atom parts g m steps n k present ready all short here none image h =
     let room = ready.planned.room in
     let few : k < n = omega (arith, length-take-le n steps (omega arith)) in
     let read : step_at (take n steps) k ≡ step_at steps k = get_or-take n steps k
-    (record { from = 0; to = 0; classes = 0 }) few in
+    (record { from = 0; to = 0; classes = 0; again = false }) few in
     let within : slice_index image k < length m.atoms = h.in_range k 0 (omega (arith, h.one_each)) in
-    let c : ℕ = class_of (get_or m.atoms (slice_index image k) no_element) in
+    let x : Atom = get_or m.atoms (slice_index image k) no_element in
+    let c : ℕ = class_of x in
     let both = and_both (step_at steps k).classes present c
     (stands_at parts g m steps image k (slice_index image k) ready (omega arith) h refl)
-    (here (slice_index image k) no_element within) in
+    (here c (class_below x.number x.aromatic)
+    (x, Contains-get_or m.atoms (slice_index image k) no_element within, refl)) in
     let zero : bit_at (bit_and (step_at steps k).classes present) c ≡ 0 =
     ap (λ (s : EarlierBonds). bit_at (bit_and s.classes present) c) (sym read) ∙ ap (λ n. bit_at n c) none ∙ bit_at-zero c in
     omega arith

@@ -33,7 +33,7 @@ abbrev pub no_term : BondTerm
 no_term = record { a = 0; b = 0; expr = Prim bonds.Any }
 
 -- the ends of a bond of a graph, as they are read
-ends_at : (g : GraphTerm) (j x y : ℕ) → JoinsAt (pattern_ends g) j x y → (j < length g.bonds)
+pub ends_at : (g : GraphTerm) (j x y : ℕ) → JoinsAt (pattern_ends g) j x y → (j < length g.bonds)
     × (((x ≡ (get_or g.bonds j no_term).a) × (y ≡ (get_or g.bonds j no_term).b))
     ⊎ ((x ≡ (get_or g.bonds j no_term).b) × (y ≡ (get_or g.bonds j no_term).a)))
 ends_at g j x y (inl e) =
@@ -82,7 +82,7 @@ end_below g j x y searchable joined =
     elim h.1 [ inl p ↦ (let e = p.1 in omega arith) | inr p ↦ (let e = p.1 in omega arith) ]
 
 -- an embedding takes the ends of a bond to the ends of one
-embedded : (task : Task) (image : List ℕ) (j x y : ℕ) → Embeds task image
+pub embedded : (task : Task) (image : List ℕ) (j x y : ℕ) → Embeds task image
     → JoinsAt (pattern_ends (graph_of task.graph.now)) j x y
     → Joined (ends_of task.mol.now) (slice_index image x) (slice_index image y)
 embedded task image j x y e joined =
@@ -107,18 +107,18 @@ embedded task image j x y e joined =
     ]
 
 -- all neighbours are near
-pub near_reach : (task : Task) (marks : List Bool) (near : List ℕ) → ((j : ℕ) → IsMarked marks j → AreNear task.mol.now near)
+pub near_reach : (task : Task) (marks : List Bool) (near : List ℕ) → AreNear task.mol.now near
     → IsReach task marks near
 near_reach task marks near all image e j x y marked joined =
     let there = embedded task image j x y e joined in
-    all j marked there.0 (slice_index image x) (slice_index image y) there.1
+    all there.0 (slice_index image x) (slice_index image y) there.1
 
 -- neighbours by ring bonds are near by bonds on rings
 pub ring_reach : (task : Task) (marks : List Bool) (near : List ℕ) → AreOnRings task marks
-    → ((j : ℕ) → IsMarked marks j → AreRingNear task.mol.now near) → IsReach task marks near
+    → AreRingNear task.mol.now near → IsReach task marks near
 ring_reach task marks near rings all image e j x y marked joined =
     let there = embedded task image j x y e joined in
-    all j marked there.0 (slice_index image x) (slice_index image y) there.1
+    all there.0 (slice_index image x) (slice_index image y) there.1
     (rings j marked image e x y there.0 joined there.1)
 
 -- no place yet
@@ -374,24 +374,25 @@ gathered_both g marks words k a b n old mid new searchable marked joined one res
     ]
 
 -- one neighbour more of an atom
-pub joined_here : (near : List ℕ) (atom at other : ℕ) → at ≡ atom → at < length near → other < 64
-    → bit_at (slice_index (set near at (bit_or (get_or near at 0) (1 * 2 ^ other % 2 ^ 64))) atom) other ≡ 1
-joined_here near atom at other same l few =
-    let new : ℕ = bit_or (get_or near at 0) (1 * 2 ^ other % 2 ^ 64) in
+pub joined_here : (near : List ℕ) (atom at other bit : ℕ) → at ≡ atom → at < length near → other < 64 → bit ≡ 1
+    → bit_at (slice_index (set near at (bit_or (get_or near at 0) (bit * 2 ^ other % 2 ^ 64))) atom) other ≡ 1
+joined_here near atom at other bit same l few one =
+    let new : ℕ = bit_or (get_or near at 0) (bit * 2 ^ other % 2 ^ 64) in
+    let set' : bit_at new other ≡ 1 = subst
+    (λ b. bit_at (bit_or (get_or near at 0) (b * 2 ^ other % 2 ^ 64)) other ≡ 1) (sym one)
+    (bit_at_set_same w64 (get_or near at 0) other few) in
     subst (λ a. bit_at (slice_index (set near at new) a) other ≡ 1) same
-    (subst (λ w. bit_at w other ≡ 1) (sym (get_or-set_same near at new 0 l))
-    (bit_at_set_same w64 (get_or near at 0) other few))
+    (subst (λ w. bit_at w other ≡ 1) (sym (get_or-set_same near at new 0 l)) set')
 
-pub joined_kept : (near : List ℕ) (at other : ℕ) → at < length near → other < 64 → (x y : ℕ)
+pub joined_kept : (near : List ℕ) (at word : ℕ) → at < length near → (x y : ℕ)
     → bit_at (slice_index near x) y ≡ 1
-    → bit_at (slice_index (set near at (bit_or (get_or near at 0) (1 * 2 ^ other % 2 ^ 64))) x) y ≡ 1
-joined_kept near at other l few x y h =
-    let new : ℕ = bit_or (get_or near at 0) (1 * 2 ^ other % 2 ^ 64) in
+    → bit_at (slice_index (set near at (bit_or (get_or near at 0) word)) x) y ≡ 1
+joined_kept near at word l x y h =
+    let new : ℕ = bit_or (get_or near at 0) word in
     elim (cases_eq x at) [
       | inl here ↦ subst (λ a. bit_at (slice_index (set near at new) a) y ≡ 1) (sym here)
           (subst (λ w. bit_at w y ≡ 1) (sym (get_or-set_same near at new 0 l))
-          (or_one (get_or near at 0) (1 * 2 ^ other % 2 ^ 64) y
-          (subst (λ a. bit_at (slice_index near a) y ≡ 1) here h)))
+          (or_one (get_or near at 0) word y (subst (λ a. bit_at (slice_index near a) y ≡ 1) here h)))
       | inr apart' ↦ subst (λ w. bit_at w y ≡ 1) (sym (get_or-set_other near at x new 0 apart')) h
     ]
 

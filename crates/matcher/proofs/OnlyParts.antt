@@ -1,22 +1,28 @@
 -- A pattern that asks for one recursive part at one atom matches where the part has an embedding.
-use Rattle.std.proofs.Common.{◌≡◌, ◌↔◌, ◌+◌, ◌<◌, ℕ, zero, suc, List, [], ◌∷◌, length, map, get_or, slice_get, slice_index, Some, sym, ap, subst, arith}
+use Rattle.std.proofs.Common.{◌≡◌, ◌↔◌, ◌+◌, ◌<◌, ◌∙◌, ℕ, zero, suc, Bool, List, [], ◌∷◌, length, map, get_or, slice_get, slice_index, Some, sym, ap, subst, arith}
+use Rattle.std.proofs.lemmas.List.{length-map}
 use Rattle.std.proofs.lemmas.Option.{none-some, same_Some, slice_get-get_or}
 use Rattle.chem_core.specs.Molecule.{Molecule}
 use Rattle.smarts_mean.specs.Table.{HoldsIn, Table}
 use Rattle.smarts_parse.specs.declared.pattern.AtomPrim.{AtomPrim}
 use Rattle.smarts_parse.specs.declared.pattern.AtomPrim.TheVariants as atoms
-use Rattle.smarts_parse.specs.Pattern.{Term, Prim, GraphTerm, PatternTerm}
+use Rattle.smarts_parse.specs.declared.pattern.Graph.{Graph}
+use Rattle.smarts_parse.specs.declared.pattern.Pattern.{Pattern}
+use Rattle.smarts_parse.specs.Pattern.{Term, Prim, GraphTerm, PatternTerm, graph_of, pattern_of}
 use Rattle.smarts_parse.specs.Sound.{IsSoundPattern}
 use Rattle.smarts_parse.specs.Truth.{AtomTrue}
 use Rattle.smarts_parse.specs.Embedding.{Matches, PartsHold}
 use Rattle.matcher.specs.Partial.{CanComplete, Parts}
 use Rattle.matcher.specs.Parts.{AreNoted}
+use Rattle.matcher.specs.Prepared.{ArePartMarks, IsOnlyPart}
+use Rattle.matcher.specs.Ring.{AreRingMarks}
 use Rattle.matcher.specs.Wanted.{AreWanted}
 use Rattle.matcher.proofs.Asked.{asked_of}
 use Rattle.matcher.proofs.Classes.{no_element}
 use Rattle.matcher.proofs.Partials.{CanComplete-more, CanComplete-next}
 use Rattle.matcher.proofs.OnlyAtoms.{all_one, no_bonds, one_grouped}
 use Rattle.matcher.proofs.PartsHeld.{part_holds}
+use Rattle.matcher.proofs.Places.{get_map}
 
 -- the only element of a list
 pub one_element : {X Y : Type 0} (f : X → Y) (xs : List X) (x : X) → length xs ≡ 1 → x ≡ get_or xs 0 x
@@ -64,3 +70,15 @@ only_part_holds p m wanted k g table sound asked last is get noted =
           CanComplete-more (HoldsIn table) g m [] a
           ((holds a).1 (subst (λ j. PartsHold p.recs m j k a) (sym next) there.2)),
     )
+
+-- the graph of the only part is read
+pub part_read : (p : Pattern) (part : ℕ) (g : Graph) → IsOnlyPart (pattern_of p) part → g ≡ get_or p.recs.items part g
+    → slice_get (pattern_of p).recs part ≡ Some (graph_of g)
+part_read p part g only is = get_map graph_of p.recs.items part g
+    (let last = only.0 in omega (arith, length-map p.recs.items graph_of)) is
+
+-- and its marks are those of the part
+pub part_marked : (p : Pattern) (part : ℕ) (g : Graph) (marks : List Bool) → IsOnlyPart (pattern_of p) part
+    → g ≡ get_or p.recs.items part g → AreRingMarks (graph_of g) marks → ArePartMarks (pattern_of p) marks part
+part_marked p part g marks only is h other get = subst (λ x. AreRingMarks x marks)
+    (same_Some (graph_of g) other (sym (part_read p part g only is) ∙ get)) h

@@ -6,6 +6,7 @@ use Rattle.std.specs.Int.{bit_at}
 use Rattle.std.proofs.lemmas.Option.{get_or_from_slice_get, none-some, same_Some, slice_get-get_or, slice_get_within}
 use Rattle.chem_core.specs.declared.mol.Atom.{Atom}
 use Rattle.chem_core.specs.Molecule.{Molecule}
+use Rattle.chem_core.specs.Symbols.{class_of}
 use Rattle.smarts_mean.specs.Table.{HoldsIn, Table, holds_at}
 use Rattle.smarts_parse.specs.declared.pattern.AtomPrim.{AtomPrim}
 use Rattle.smarts_parse.specs.declared.pattern.AtomPrim.TheVariants as atoms
@@ -13,7 +14,7 @@ use Rattle.smarts_parse.specs.Pattern.{Term, Prim, Not, And, Or, GraphTerm, Patt
 use Rattle.smarts_parse.specs.Sound.{IsSoundPattern, NamesBelow, PrimNamesBelow}
 use Rattle.smarts_parse.specs.Truth.{AtomTrue, AtomPrimTrue}
 use Rattle.smarts_parse.specs.Embedding.{IsEmbedding, Matches, PartsHold}
-use Rattle.matcher.specs.Class.{class_of, Covers}
+use Rattle.matcher.specs.Class.{Covers}
 use Rattle.matcher.specs.Partial.{CanComplete, IsLeastFrom, IsSearchable, Parts}
 use Rattle.matcher.specs.Least.{IsLeast}
 use Rattle.matcher.specs.Parts.{AreBeginnings, AreNoted, AreSoundParts, HoldAlike}

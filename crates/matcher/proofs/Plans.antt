@@ -1,5 +1,5 @@
 -- The steps of a graph: none, with one bond more, and what is read from them.
-use Rattle.std.proofs.Common.{◌≡◌, ◌≢◌, ◌⊎◌, ℕ, ◌+◌, ◌-◌, ◌<◌, ◌≤◌, List, length, map, max, set, take, drop, get_or, All, sym, ap, ◌∙◌, subst, arith, inl, inr}
+use Rattle.std.proofs.Common.{◌≡◌, ◌≢◌, ◌⊎◌, ℕ, ◌+◌, ◌-◌, ◌<◌, ◌≤◌, List, length, map, max, set, take, drop, get_or, All, false, true, sym, ap, ◌∙◌, subst, arith, inl, inr}
 use Rattle.std.proofs.lemmas.Bool.{cases_eq}
 use Rattle.std.proofs.lemmas.List.{get_or-drop, get_or-map, get_or-set_other, get_or-set_same, get_or-take, length-map, length-set, take-map, drop-map, length-take, length-drop}
 use Rattle.std.proofs.lemmas.List.Elements.{All-drop, All-take}
@@ -9,10 +9,10 @@ use Rattle.smarts_parse.specs.Pattern.{BondTerm, GraphTerm, Term, bond_of}
 use Rattle.smarts_parse.specs.Sound.{pattern_ends}
 use Rattle.matcher.specs.declared.plan.EarlierBonds.{EarlierBonds}
 use Rattle.matcher.specs.Class.{Covers}
-use Rattle.matcher.specs.Plan.{ArePlanned, AreCovered, IsReady, step_at}
+use Rattle.matcher.specs.Plan.{ArePlanned, AreCovered, AreRepeats, IsReady, IsRepeat, step_at}
 
 abbrev pub empty : EarlierBonds
-empty = record { from = 0; to = 0; classes = 0 }
+empty = record { from = 0; to = 0; classes = 0; again = false }
 
 -- one bond more
 pub planned_more : (bonds : List BondTerm) (n atoms : ℕ) (steps : List EarlierBonds) (h : ℕ) (next : EarlierBonds) (bond : BondTerm)
@@ -204,6 +204,32 @@ covered_more atoms n steps next before lt here k l d = elim (cases_eq k n) [
       (subst (λ (s : EarlierBonds). Covers s.classes (get_or atoms n d)) (sym (get_or-set_same steps n next empty lt)) (here d))
   | inr apart ↦ subst (λ (s : EarlierBonds). Covers s.classes (get_or atoms k d))
       (sym (get_or-set_other steps n k next empty apart)) (before k (omega arith) d)
+]
+
+-- what is said of repeats is kept where a step that says the same is written
+pub repeats_set : (atoms : List (Term AtomPrim)) (n : ℕ) (steps : List EarlierBonds) (h : ℕ) (next : EarlierBonds)
+    → AreRepeats atoms n steps → h < length steps → next.again ≡ (step_at steps h).again
+    → AreRepeats atoms n (set steps h next)
+repeats_set atoms n steps h next before lt same k l yes' = elim (cases_eq k h) [
+  | inl at ↦
+      let read : (step_at (set steps h next) k).again ≡ (step_at steps k).again =
+      ap (λ (s : EarlierBonds). s.again) (ap (step_at (set steps h next)) at ∙ get_or-set_same steps h next empty lt)
+      ∙ same ∙ ap (λ i. (step_at steps i).again) (sym at) in
+      before k l (sym read ∙ yes')
+  | inr apart ↦ before k l
+      (ap (λ (s : EarlierBonds). s.again) (sym (get_or-set_other steps h k next empty apart)) ∙ yes')
+]
+
+-- and of one step more
+pub repeats_more : (atoms : List (Term AtomPrim)) (n : ℕ) (steps : List EarlierBonds) (next : EarlierBonds)
+    → AreRepeats atoms n steps → n < length steps → (next.again ≡ true → IsRepeat atoms n)
+    → AreRepeats atoms (n + 1) (set steps n next)
+repeats_more atoms n steps next before lt here k l yes' = elim (cases_eq k n) [
+  | inl at ↦ subst (IsRepeat atoms) (sym at)
+      (here (ap (λ (s : EarlierBonds). s.again) (sym (ap (step_at (set steps n next)) at
+      ∙ get_or-set_same steps n next empty lt)) ∙ yes'))
+  | inr apart ↦ before k (omega arith)
+      (ap (λ (s : EarlierBonds). s.again) (sym (get_or-set_other steps n k next empty apart)) ∙ yes')
 ]
 
 -- no bond yet, of one step more

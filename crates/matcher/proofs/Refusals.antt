@@ -9,10 +9,11 @@ use Rattle.chem_core.specs.declared.mol.Bond.{Bond}
 use Rattle.chem_core.specs.declared.mol.BondKind.TheVariants.{Single}
 use Rattle.chem_core.specs.Graph.{JoinsAt}
 use Rattle.chem_core.specs.Molecule.{IsMolecule, Molecule, ends_of}
+use Rattle.chem_core.specs.Symbols.{class_of}
 use Rattle.smarts_parse.specs.Embedding.{BondEmbeds, IsEmbedding}
 use Rattle.smarts_parse.specs.Pattern.{BondTerm, GraphTerm}
 use Rattle.smarts_parse.specs.Truth.{BondTrue}
-use Rattle.matcher.specs.Class.{class_of, is_among, is_within}
+use Rattle.matcher.specs.Class.{is_among, is_within}
 use Rattle.matcher.specs.declared.plan.EarlierBonds.{EarlierBonds}
 use Rattle.matcher.specs.Partial.{CanComplete, Parts}
 use Rattle.matcher.specs.Plan.{IsReady, step_at}

@@ -6,52 +6,55 @@ use Rattle.std.proofs.lemmas.List.{get_or-map, get_or-replicate, get_or_past, le
 use Rattle.std.proofs.lemmas.Option.{same_Some}
 use Rattle.chem_core.specs.Graph.{Ends, IsSimpleCycle, IsSmallestRing, Joined, JoinsAt, next_place}
 use Rattle.chem_core.specs.Molecule.{ends_of}
+use Rattle.smarts_parse.specs.declared.pattern.Graph.{Graph}
 use Rattle.smarts_parse.specs.declared.pattern.PatBond.{PatBond}
-use Rattle.smarts_parse.specs.Embedding.{BondEmbeds}
-use Rattle.smarts_parse.specs.Pattern.{bond_of, graph_of, term_of}
+use Rattle.smarts_parse.specs.Pattern.{GraphTerm, graph_of, term_of}
 use Rattle.smarts_parse.specs.Sound.{pattern_ends}
 use Rattle.matcher.specs.declared.task.Task.{Task}
-use Rattle.matcher.specs.Ring.{AreBound, AreOnRings, IsMarked, IsMarkedWay, IsOnRing, IsWay}
-use Rattle.matcher.specs.Task.{Completes, Embeds, IsReadyTask}
+use Rattle.matcher.specs.Partial.{IsSearchable}
+use Rattle.matcher.specs.Ring.{AreOnRings, AreRingMarks, IsMarked, IsMarkedWay, IsOnRing, IsWay}
+use Rattle.matcher.specs.Task.{Completes, Embeds}
 use Rattle.matcher.proofs.Joins.{joined_back}
+use Rattle.matcher.proofs.Narrowings.{embedded, ends_at, no_term}
+use Rattle.matcher.proofs.OnlyAtoms.{no_bonds}
 use Rattle.matcher.proofs.Plans.{high_below}
 
 -- the places of a way descend
-below_first : (task : Task) (from to : ℕ) (places : List ℕ) → IsWay task from to places → (k : ℕ) → k < length places
+below_first : (g : GraphTerm) (from to : ℕ) (places : List ℕ) → IsWay g from to places → (k : ℕ) → k < length places
     → get_or places k 0 < from
-below_first task from to [] w k l = absurd (omega arith)
-below_first task from to (next ∷ places) w zero l = w.0
-below_first task from to (next ∷ places) w (suc k) l =
+below_first g from to [] w k l = absurd (omega arith)
+below_first g from to (next ∷ places) w zero l = w.0
+below_first g from to (next ∷ places) w (suc k) l =
     let lower : next < from = w.0 in
-    let rest = below_first task next to places w.2 k (omega arith) in
+    let rest = below_first g next to places w.2 k (omega arith) in
     omega arith
 
-descends : (task : Task) (from to : ℕ) (places : List ℕ) → IsWay task from to places → (i j : ℕ) → i < j
+descends : (g : GraphTerm) (from to : ℕ) (places : List ℕ) → IsWay g from to places → (i j : ℕ) → i < j
     → j < length (from ∷ places)
     → get_or (from ∷ places) j 0 < get_or (from ∷ places) i 0
-descends task from to places w i zero l m = absurd (omega arith)
-descends task from to places w zero (suc j) l m = below_first task from to places w j (omega arith)
-descends task from to [] w (suc i) (suc j) l m = absurd (omega arith)
-descends task from to (next ∷ places) w (suc i) (suc j) l m = descends task next to places w.2 i j (omega arith)
+descends g from to places w i zero l m = absurd (omega arith)
+descends g from to places w zero (suc j) l m = below_first g from to places w j (omega arith)
+descends g from to [] w (suc i) (suc j) l m = absurd (omega arith)
+descends g from to (next ∷ places) w (suc i) (suc j) l m = descends g next to places w.2 i j (omega arith)
     (omega arith)
 
 -- and are none above the first
-at_most : (task : Task) (from to : ℕ) (places : List ℕ) → IsWay task from to places → (k : ℕ)
+at_most : (g : GraphTerm) (from to : ℕ) (places : List ℕ) → IsWay g from to places → (k : ℕ)
     → k < length (from ∷ places) → get_or (from ∷ places) k 0 ≤ from
-at_most task from to places w zero l = omega arith
-at_most task from to places w (suc k) l = let low = below_first task from to places w k (omega arith) in omega arith
+at_most g from to places w zero l = omega arith
+at_most g from to places w (suc k) l = let low = below_first g from to places w k (omega arith) in omega arith
 
--- each is bound to the next
-bound_next : (task : Task) (from to : ℕ) (places : List ℕ) → IsWay task from to places → (i : ℕ) → i < length places
-    → AreBound task (get_or (from ∷ places) i 0) (get_or (from ∷ places) (suc i) 0)
-bound_next task from to [] w i l = absurd (omega arith)
-bound_next task from to (next ∷ places) w zero l = w.1
-bound_next task from to (next ∷ places) w (suc i) l = bound_next task next to places w.2 i (omega arith)
+-- a bond joins each to the next
+joined_next : (g : GraphTerm) (from to : ℕ) (places : List ℕ) → IsWay g from to places → (i : ℕ) → i < length places
+    → Joined (pattern_ends g) (get_or (from ∷ places) i 0) (get_or (from ∷ places) (suc i) 0)
+joined_next g from to [] w i l = absurd (omega arith)
+joined_next g from to (next ∷ places) w zero l = w.1
+joined_next g from to (next ∷ places) w (suc i) l = joined_next g next to places w.2 i (omega arith)
 
-way_last : (task : Task) (from to : ℕ) (places : List ℕ) → IsWay task from to places
+way_last : (g : GraphTerm) (from to : ℕ) (places : List ℕ) → IsWay g from to places
     → get_or (from ∷ places) (length places) 0 ≡ to
-way_last task from to [] w = w
-way_last task from to (next ∷ places) w = way_last task next to places w.2
+way_last g from to [] w = w
+way_last g from to (next ∷ places) w = way_last g next to places w.2
 
 -- where an embedding takes the places of a way
 abbrev stretch : List ℕ → ℕ → List ℕ → List ℕ
@@ -62,7 +65,8 @@ stretch_at : (image : List ℕ) (from : ℕ) (places : List ℕ) (i d : ℕ) →
 stretch_at image from places i d l = get_or-map (λ p. slice_index image p) (from ∷ places) i 0 d l
 
 -- a way whose ends are bound is taken to a ring
-way_ring : (task : Task) (from to : ℕ) (places image : List ℕ) → IsWay task from to places → AreBound task to from
+way_ring : (task : Task) (from to : ℕ) (places image : List ℕ)
+    → IsWay (graph_of task.graph.now) from to places → Joined (pattern_ends (graph_of task.graph.now)) to from
     → 2 ≤ length places → from < length image → Embeds task image
     → IsSimpleCycle (ends_of task.mol.now) (stretch image from places)
 way_ring task from to places image w closed long few e =
@@ -72,8 +76,8 @@ way_ring task from to places image w closed long few e =
     record {
       three = omega arith;
       distinct = λ i j d l k same.
-          let lower = descends task from to places w i j l (omega arith) in
-          let top = at_most task from to places w i (omega arith) in
+          let lower = descends (graph_of task.graph.now) from to places w i j l (omega arith) in
+          let top = at_most (graph_of task.graph.now) from to places w i (omega arith) in
           let one = stretch_at image from places i d (omega arith) in
           let two = stretch_at image from places j d (omega arith) in
           e.distinct (get_or (from ∷ places) j 0) (get_or (from ∷ places) i 0) 0 lower (omega arith) (sym two ∙ sym same
@@ -83,10 +87,11 @@ way_ring task from to places image w closed long few e =
             let next : next_place ring i ≡ suc i = mod-eq_of_lt before ∙ plus_one i in
             let one = stretch_at image from places i 0 (omega arith) in
             let two = stretch_at image from places (suc i) 0 (omega arith) in
+            let bond = joined_next (graph_of task.graph.now) from to places w i (omega arith) in
             subst (λ q. Joined ends (get_or ring i 0) (get_or ring q 0)) (sym next)
             (subst (λ x. Joined ends x (get_or ring (suc i) 0)) (sym one)
             (subst (λ y. Joined ends (slice_index image (get_or (from ∷ places) i 0)) y) (sym two)
-            (bound_next task from to places w i (omega arith) image e)))
+            (embedded task image bond.0 _ _ e bond.1)))
         | inr after ↦
             let all : i + 1 ≡ length ring = omega arith in
             let last : i ≡ length places = omega arith in
@@ -94,30 +99,31 @@ way_ring task from to places image w closed long few e =
             let one : get_or ring i 0 ≡ slice_index image to =
             stretch_at image from places i 0 (omega arith)
             ∙ ap (λ p. slice_index image (get_or (from ∷ places) p 0)) last
-            ∙ ap (λ p. slice_index image p) (way_last task from to places w) in
+            ∙ ap (λ p. slice_index image p) (way_last (graph_of task.graph.now) from to places w) in
             let two = stretch_at image from places 0 0 (omega arith) in
             subst (λ q. Joined ends (get_or ring i 0) (get_or ring q 0)) (sym next)
             (subst (λ x. Joined ends x (get_or ring 0 0)) (sym one)
-            (subst (λ y. Joined ends (slice_index image to) y) (sym two) (closed image e)))
+            (subst (λ y. Joined ends (slice_index image to) y) (sym two) (embedded task image closed.0 to from e closed.1)))
       ];
     }
   where
     plus_one : (i : ℕ) → i + 1 ≡ suc i
     plus_one i = omega arith
 
-on_ring : (task : Task) (from to : ℕ) (places image : List ℕ) → IsWay task from to places
+on_ring : (task : Task) (from to : ℕ) (places image : List ℕ) → IsWay (graph_of task.graph.now) from to places
     → Contains (stretch image from places) (slice_index image to)
 on_ring task from to places image w = (
   length places,
   (let size = length-map (from ∷ places) (λ p. slice_index image p) in omega arith),
   stretch_at image from places (length places) (slice_index image to) (omega arith)
-      ∙ ap (λ p. slice_index image p) (way_last task from to places w),
+      ∙ ap (λ p. slice_index image p) (way_last (graph_of task.graph.now) from to places w),
 )
 
 -- no embedding, where the last place of such a way can stand on no ring of as many atoms
-pub no_ring : (task : Task) (from to links : ℕ) → from < length (graph_of task.graph.now).atoms → AreBound task to from
+pub no_ring : (task : Task) (from to links : ℕ) → from < length (graph_of task.graph.now).atoms
+    → Joined (pattern_ends (graph_of task.graph.now)) to from
     → 2 ≤ links
-    → (places : List ℕ) × (length places ≡ links) × IsWay task from to places
+    → (places : List ℕ) × (length places ≡ links) × IsWay (graph_of task.graph.now) from to places
     → ((image : List ℕ) → Embeds task image → (ring : List ℕ) → IsSimpleCycle (ends_of task.mol.now) ring
     → Contains ring (slice_index image to) → length ring ≡ links + 1 → ⊥)
     → Completes task [] → ⊥
@@ -145,32 +151,6 @@ smallest_of ends a n links ring h cycle on size = elim h [
       (λ z. omega arith, omega arith)
 ]
 
--- the ends of a bond are bound
-pub bound_ends : (task : Task) (place x y : ℕ) (b : PatBond) → place < length task.graph.now.bonds.items
-    → b ≡ get_or task.graph.now.bonds.items place b
-    → ((x ≡ b.a) × (y ≡ b.b)) ⊎ ((x ≡ b.b) × (y ≡ b.a)) → AreBound task x y
-bound_ends task place x y b l is either image e =
-    let bonds = task.graph.now.bonds.items in
-    let g = graph_of task.graph.now in
-    let ends : Ends = ends_of task.mol.now in
-    let within : place < length g.bonds = subst (λ n. place < n) (sym (length-map bonds bond_of)) l in
-    let j : BondEmbeds task.mol.now image (bond_of b) =
-    subst (BondEmbeds task.mol.now image) (get_or-map bond_of bonds place b (bond_of b) l ∙ ap bond_of (sym is))
-    (e.bonds place (bond_of b) within) in
-    elim either [
-      | inl h ↦ (
-        j.0,
-        subst (λ p. JoinsAt ends j.0 (slice_index image p) (slice_index image y)) (sym h.0)
-            (subst (λ q. JoinsAt ends j.0 (slice_index image b.a) (slice_index image q)) (sym h.1) j.1),
-      )
-      | inr h ↦ (
-        j.0,
-        subst (λ p. JoinsAt ends j.0 (slice_index image p) (slice_index image y)) (sym h.0)
-            (subst (λ q. JoinsAt ends j.0 (slice_index image b.b) (slice_index image q)) (sym h.1)
-            (joined_back ends j.0 (slice_index image b.a) (slice_index image b.b) j.1)),
-      )
-    ]
-
 -- two numbers are their lesser and their greater
 pub low_high : (a b low high : ℕ) → low ≡ min a b → high ≡ max a b → ((low ≡ a) × (high ≡ b)) ⊎ ((low ≡ b) × (high ≡ a))
 low_high a b low high least most = elim (cases_lt a b)
@@ -181,12 +161,12 @@ high_low a b low high least most = elim (cases_lt a b)
     [ inl l ↦ inr (omega arith, omega arith) | inr l ↦ inl (omega arith, omega arith) ]
 
 -- the greater end of a bond is a place
-pub high_place : (task : Task) (place high : ℕ) (b : PatBond) → IsReadyTask task
-    → place < length task.graph.now.bonds.items → b ≡ get_or task.graph.now.bonds.items place b
-    → high ≡ max b.a b.b → high < length task.graph.now.atoms.items
-high_place task place high b ready l is most =
-    let few = high_below task.graph.now.bonds.items (graph_of task.graph.now) place b l is ready.searchable.ends in
-    omega (arith, few, length-map task.graph.now.atoms.items term_of)
+pub high_place : (graph : Graph) (place high : ℕ) (b : PatBond) → IsSearchable (graph_of graph)
+    → place < length graph.bonds.items → b ≡ get_or graph.bonds.items place b → high ≡ max b.a b.b
+    → high < length graph.atoms.items
+high_place graph place high b searchable l is most =
+    let few = high_below graph.bonds.items (graph_of graph) place b l is searchable.ends in
+    omega (arith, few, length-map graph.atoms.items term_of)
 
 -- a bond has two ends
 same_ends : (ends : Ends) (j p q x y : ℕ) → JoinsAt ends j p q → JoinsAt ends j x y
@@ -220,7 +200,8 @@ ends_embedded task image j p q x y b one two at =
     ]
 
 -- the bonds along a way whose ends are bound lie on a ring
-on_ring_along : (task : Task) (from to : ℕ) (places : List ℕ) → IsWay task from to places → AreBound task to from
+on_ring_along : (task : Task) (from to : ℕ) (places : List ℕ)
+    → IsWay (graph_of task.graph.now) from to places → Joined (pattern_ends (graph_of task.graph.now)) to from
     → 2 ≤ length places → from < length (graph_of task.graph.now).atoms → (i j : ℕ) → i < length places
     → JoinsAt (pattern_ends (graph_of task.graph.now)) j (slice_index (from ∷ places) i)
     (slice_index (from ∷ places) (suc i)) → IsOnRing task j
@@ -248,7 +229,8 @@ on_ring_along task from to places w closed long few i j l joined image e x y b t
     )
 
 -- and so does the bond between its ends
-on_ring_between : (task : Task) (from to : ℕ) (places : List ℕ) → IsWay task from to places → AreBound task to from
+on_ring_between : (task : Task) (from to : ℕ) (places : List ℕ)
+    → IsWay (graph_of task.graph.now) from to places → Joined (pattern_ends (graph_of task.graph.now)) to from
     → 2 ≤ length places → from < length (graph_of task.graph.now).atoms → (j : ℕ)
     → JoinsAt (pattern_ends (graph_of task.graph.now)) j to from → IsOnRing task j
 on_ring_between task from to places w closed long few j joined image e x y b two at =
@@ -259,7 +241,7 @@ on_ring_between task from to places w closed long few j joined image e x y b two
     let all : i + 1 ≡ length ring = omega arith in
     let next : next_place ring i ≡ 0 = ap (λ n. n % length ring) all ∙ mod_self (length ring) in
     let one : get_or ring i 0 ≡ slice_index image to = stretch_at image from places i 0 (omega arith)
-    ∙ ap (λ p. slice_index image p) (way_last task from to places w) in
+    ∙ ap (λ p. slice_index image p) (way_last (graph_of task.graph.now) from to places w) in
     let other : get_or ring 0 0 ≡ slice_index image from = stretch_at image from places 0 0 (omega arith) in (
       ring,
       way_ring task from to places image w closed long (omega (arith, e.one_each)) e,
@@ -274,20 +256,28 @@ on_ring_between task from to places w closed long few j joined image e x y b two
     )
 
 -- a ring is marked: the way and the bond between its ends
-pub ring_marked : (task : Task) (from to place : ℕ) (old new last : List Bool) → AreOnRings task old
-    → IsMarkedWay task from to 0 old new → AreBound task to from → from < length (graph_of task.graph.now).atoms
+ring_marked_in : (task : Task) (from to place : ℕ) (old new last : List Bool) → AreOnRings task old
+    → IsMarkedWay (graph_of task.graph.now) from to 0 old new → from < length (graph_of task.graph.now).atoms
     → JoinsAt (pattern_ends (graph_of task.graph.now)) place to from
     → ((j : ℕ) → IsMarked last j → (j ≡ place) ⊎ IsMarked new j) → AreOnRings task last
-ring_marked task from to place old new last rings w closed few joined more j marked =
+ring_marked_in task from to place old new last rings w few joined more j marked =
     let long : 2 ≤ length w.places = (let l = w.long in omega arith) in
     elim (more j marked) [
       | inl is ↦ subst (IsOnRing task) (sym is)
-          (on_ring_between task from to w.places w.way closed long few place joined)
+          (on_ring_between task from to w.places w.way (place, joined) long few place joined)
       | inr before ↦ elim (w.marked j before) [
         | inl earlier ↦ rings j earlier
-        | inr along ↦ on_ring_along task from to w.places w.way closed long few along.0 j along.1 along.2
+        | inr along ↦ on_ring_along task from to w.places w.way (place, joined) long few along.0 j along.1 along.2
       ]
     ]
+
+pub ring_marked : (g : GraphTerm) (from to place : ℕ) (old new last : List Bool) → AreRingMarks g old
+    → IsMarkedWay g from to 0 old new → from < length g.atoms → JoinsAt (pattern_ends g) place to from
+    → ((j : ℕ) → IsMarked last j → (j ≡ place) ⊎ IsMarked new j) → AreRingMarks g last
+ring_marked g from to place old new last rings w few joined more task same = ring_marked_in task from to place old new
+    last (rings task same) (subst (λ h. IsMarkedWay h from to 0 old new) (sym same) w)
+    (subst (λ (h : GraphTerm). from < length h.atoms) (sym same) few)
+    (subst (λ h. JoinsAt (pattern_ends h) place to from) (sym same) joined) more
 
 -- what is marked was before, but for one
 pub marked_split : (old new : List Bool) (place : ℕ)
@@ -299,9 +289,9 @@ marked_split old new place others j marked = elim (cases_eq j place) [
 ]
 
 -- a way of two bonds that ends
-pub way_ends : (task : Task) (from to above : ℕ) (marks : List Bool) → from ≡ to → 2 ≤ above
-    → IsMarkedWay task from to above marks marks
-way_ends task from to above marks same long = record {
+pub way_ends : (g : GraphTerm) (from to above : ℕ) (marks : List Bool) → from ≡ to → 2 ≤ above
+    → IsMarkedWay g from to above marks marks
+way_ends g from to above marks same long = record {
   places = [];
   way = same;
   long = omega arith;
@@ -309,20 +299,20 @@ way_ends task from to above marks same long = record {
 }
 
 -- one bond more above a way
-pub way_longer : (task : Task) (from next to above bond : ℕ) (old new last : List Bool) → next < from
-    → AreBound task from next → JoinsAt (pattern_ends (graph_of task.graph.now)) bond from next
-    → IsMarkedWay task next to (above + 1) old new
+pub way_longer : (g : GraphTerm) (from next to above bond : ℕ) (old new last : List Bool) → next < from
+    → JoinsAt (pattern_ends g) bond from next
+    → IsMarkedWay g next to (above + 1) old new
     → ((j : ℕ) → j ≢ bond → get_or last j false ≡ get_or new j false)
-    → IsMarkedWay task from to above old last
-way_longer task from next to above bond old new last lower bound joined w others = record {
+    → IsMarkedWay g from to above old last
+way_longer g from next to above bond old new last lower joined w others = record {
   places = next ∷ w.places;
-  way = (lower, bound, w.way);
+  way = (lower, (bond, joined), w.way);
   long = (let l = w.long in omega arith);
   marked = λ j marked. elim (marked_split new last bond others j marked) [
     | inl here ↦ inr (
       0,
       omega arith,
-      subst (λ k. JoinsAt (pattern_ends (graph_of task.graph.now)) k from next) (sym here) joined,
+      subst (λ k. JoinsAt (pattern_ends g) k from next) (sym here) joined,
     )
     | inr before ↦ elim (w.marked j before) [
       | inl earlier ↦ inl earlier
@@ -332,7 +322,7 @@ way_longer task from next to above bond old new last lower bound joined w others
 }
 
 -- nothing is marked
-pub not_marked : (n j : ℕ) → IsMarked (replicate n false) j → ⊥
+not_marked : (n j : ℕ) → IsMarked (replicate n false) j → ⊥
 not_marked n j marked = false≢true (sym none ∙ marked)
   where
     none : get_or (replicate n false) j false ≡ false
@@ -341,5 +331,11 @@ not_marked n j marked = false≢true (sym none ∙ marked)
       | inr high ↦ get_or_past (replicate n false) j false (omega (arith, length-replicate n false))
     ]
 
-pub no_marks : (task : Task) (n : ℕ) → AreOnRings task (replicate n false)
-no_marks task n j marked = absurd (not_marked n j marked)
+pub no_marks : (g : GraphTerm) (n : ℕ) → AreRingMarks g (replicate n false)
+no_marks g n task same j marked = absurd (not_marked n j marked)
+
+-- a graph of one atom has no bond, so every mark is on a ring
+pub one_marks : (g : GraphTerm) (marks : List Bool) → IsSearchable g → length g.atoms ≡ 1 → AreRingMarks g marks
+one_marks g marks searchable one task same j marked image e x y b joined at =
+    let there = ends_at g j x y (subst (λ h. JoinsAt (pattern_ends h) j x y) same joined) in
+    absurd (no_bonds g searchable.ends searchable.apart one j no_term there.0)

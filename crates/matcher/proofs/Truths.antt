@@ -1,16 +1,18 @@
 -- At which atoms the expressions of a graph are true, as bits of words.
-use Rattle.std.proofs.Common.{◌≡◌, ◌↔◌, ◌∙◌, ◌+◌, ◌-◌, ◌*◌, ◌/◌, ◌%◌, ◌^◌, ◌<◌, ◌≤◌, ℕ, Bool, false, true, List, inl, inr, bit_and, bit_or, get_or, length, min, slice_get, slice_index, set, suc, Some, All, ap, arith, refl, subst, sym, w64}
+use Rattle.std.proofs.Common.{◌≡◌, ◌↔◌, ◌∙◌, ◌+◌, ◌-◌, ◌*◌, ◌/◌, ◌%◌, ◌^◌, ◌<◌, ◌≤◌, ℕ, Bool, false, true, List, inl, inr, bit_and, bit_or, get_or, length, min, slice_get, slice_index, set, suc, None, Option, Some, All, ap, arith, refl, subst, sym, w64}
 use Rattle.std.specs.Int.{bit_at}
 use Rattle.std.specs.Int.{bit_not, from_bool}
 use Rattle.std.proofs.lemmas.Nat.Bits.{bit_at-lt, bit_at-zero, bit_at_and, bit_at_not, bit_at_or, bit_at-suc, bit_at_above, bit_at_lowest, bit_at_ones, bit_at_ones_above}
+use Rattle.std.specs.Option.{IsSomeAnd}
 use Rattle.std.proofs.Math.Nat.{mod-eq_of_lt}
 use Rattle.std.proofs.Math.Pow.{pow-lt}
 use Rattle.std.proofs.lemmas.Bool.{cases_eq, cases_lt, false≢true}
 use Rattle.std.proofs.lemmas.List.{get_or-set_other, get_or-set_same}
 use Rattle.std.proofs.lemmas.Nat.{and_mask}
-use Rattle.std.proofs.lemmas.Option.{get_or_from_slice_get, same_Some, slice_get_within, slice_get-get_or}
+use Rattle.std.proofs.lemmas.Option.{get_or_from_slice_get, none-some, same_Some, slice_get_within, slice_get-get_or}
 use Rattle.chem_core.specs.declared.mol.Atom.{Atom}
 use Rattle.chem_core.specs.Molecule.{Molecule}
+use Rattle.chem_core.specs.Symbols.{HasSymbolAt}
 use Rattle.smarts_mean.specs.Table.{HoldsIn, Table, holds_at}
 use Rattle.smarts_parse.specs.declared.pattern.AtomPrim.{AtomPrim}
 use Rattle.smarts_parse.specs.declared.pattern.AtomPrim.TheVariants as atoms
@@ -21,7 +23,7 @@ use Rattle.matcher.specs.Candidates.{AreTruths, AreTruthsIn, IsTruth, IsTruthAt}
 use Rattle.matcher.specs.declared.task.Task.{Task}
 use Rattle.matcher.specs.Partial.{Parts}
 use Rattle.matcher.proofs.Asked.{names_below}
-use Rattle.matcher.proofs.Classes.{no_element}
+use Rattle.matcher.proofs.Classes.{no_element, or_one, or_two}
 use Rattle.matcher.proofs.PartsHeld.{AreKept, parts_term}
 
 -- a primitive at the atom that is read
@@ -129,14 +131,6 @@ abbrev pub IsSeen : Parts → Molecule → AtomPrim → ℕ → ℕ → ℕ → 
 IsSeen parts m p block n word = (i : ℕ) → n + i < 64
     → bit_at word i ≡ 1 ↔ AtomTrue parts (Prim p) m (64 * block + (n + i))
 
-pub none_seen : (parts : Parts) (m : Molecule) (p : AtomPrim) (block n : ℕ)
-    → n ≡ min 64 (length m.atoms - 64 * block) → IsSeen parts m p block n 0
-none_seen parts m p block n count i l =
-    let zero' = bit_at-zero i in (
-      λ t. absurd (omega arith),
-      λ w. absurd (let r = slice_get_within m.atoms (64 * block + (n + i)) w.0 w.1 in omega arith),
-    )
-
 -- one atom more, before the others
 pub one_seen : (parts : Parts) (m : Molecule) (p : AtomPrim) (block n next word new : ℕ) (r : Bool) → n + 1 ≡ next
     → ((bit_at new 0 ≡ 1) ↔ (r ≡ true)) → ((i : ℕ) → i + 1 < 64 → bit_at new (i + 1) ≡ bit_at word i)
@@ -157,6 +151,51 @@ one_seen parts m p block n next word new r after lowest others asked h i l = eli
       subst (λ k. bit_at new i ≡ 1 ↔ AtomTrue parts (Prim p) m k) there
       (λ t. old.0 (sym same ∙ t), λ w. same ∙ old.1 w)
 ]
+
+-- those of the first block, as they are found at once
+pub first_seen : (parts : Parts) (m : Molecule) (p : AtomPrim) (block word : ℕ) → block ≡ 0
+    → ((i : ℕ) → i < 64 → bit_at word i ≡ 1 ↔ AtomTrue parts (Prim p) m i) → IsSeen parts m p block 0 word
+first_seen parts m p block word first h i l =
+    let here : i ≡ 64 * block + (0 + i) = omega arith in
+    subst (λ k. bit_at word i ≡ 1 ↔ AtomTrue parts (Prim p) m k) here (h i (omega arith))
+
+some_held : (o : Option Atom) (P : Atom → Type 0) → IsSomeAnd o P ↔ ((x : Atom) × (o ≡ Some x) × P x)
+some_held None P = (λ h. absurd h, λ w. absurd (none-some w.0 w.1))
+some_held (Some x) P = (λ h. (x, refl, h), λ w. subst P (same_Some w.0 x (sym w.1)) w.2)
+
+pub symbol_found : (parts : Parts) (m : Molecule) (number : ℕ) (lower : Bool) (word i : ℕ)
+    → bit_at word i ≡ 1 ↔ HasSymbolAt m.atoms i number lower
+    → bit_at word i ≡ 1 ↔ AtomTrue parts (Prim (atoms.Symbol number lower)) m i
+symbol_found parts m number lower word i h =
+    let held = some_held (slice_get m.atoms i) (λ x. (x.number ≡ number) × (x.aromatic ≡ lower)) in
+    (λ t. held.0 (h.0 t), λ w. h.1 (held.1 w))
+
+-- an atom of a number is aromatic or not
+pub number_found : (parts : Parts) (m : Molecule) (number a b i : ℕ)
+    → bit_at a i ≡ 1 ↔ HasSymbolAt m.atoms i number false → bit_at b i ≡ 1 ↔ HasSymbolAt m.atoms i number true
+    → bit_at (bit_or a b) i ≡ 1 ↔ AtomTrue parts (Prim (atoms.Number number)) m i
+number_found parts m number a b i h k = (
+  λ t.
+      let is = bit_at_or a b i in
+      let one = bit_at-lt a i in
+      let two = bit_at-lt b i in
+      elim (cases_eq (bit_at a i) 1) [
+        | inl yes' ↦ (let w = plain.0 yes' in (w.0, w.1, w.2.0))
+        | inr apart ↦ (let w = aromatic.0 (omega arith) in (w.0, w.1, w.2.0))
+      ],
+  λ w. of_kind w.0.aromatic w refl,
+)
+  where
+    plain : bit_at a i ≡ 1 ↔ AtomTrue parts (Prim (atoms.Symbol number false)) m i
+    plain = symbol_found parts m number false a i h
+
+    aromatic : bit_at b i ≡ 1 ↔ AtomTrue parts (Prim (atoms.Symbol number true)) m i
+    aromatic = symbol_found parts m number true b i k
+
+    of_kind : (kind : Bool) (w : AtomTrue parts (Prim (atoms.Number number)) m i) → w.0.aromatic ≡ kind
+        → bit_at (bit_or a b) i ≡ 1
+    of_kind false w is = or_one a b i (plain.1 (w.0, w.1, (w.2, is)))
+    of_kind true w is = or_two a b i (aromatic.1 (w.0, w.1, (w.2, is)))
 
 -- all atoms of the block are seen, and those of a word are taken
 pub all_seen : (parts : Parts) (m : Molecule) (p : AtomPrim) (block within n word : ℕ) → n ≡ 0

@@ -1,19 +1,12 @@
--- For private clauses alone: classes of atoms, and those at which an expression may be true.
-use Rattle.std.specs.Prelude.{◌≡◌, ◌⊎◌, ℕ, ◌+◌, ◌*◌, ◌%◌, ◌<◌, Bool, true, false, ◌==◌, bit_or}
+-- For private clauses alone: the classes of atoms at which an expression may be true.
+use Rattle.std.specs.Prelude.{◌≡◌, ◌⊎◌, ℕ, ◌<◌, Bool, true, false, ◌==◌, bit_or}
 use Rattle.std.specs.Int.{bit_at}
 use Rattle.chem_core.specs.declared.mol.Atom.{Atom}
+use Rattle.chem_core.specs.Symbols.{class_at, class_of}
 use Rattle.smarts_parse.specs.declared.pattern.AtomPrim.{AtomPrim}
 use Rattle.smarts_parse.specs.declared.pattern.AtomPrim.TheVariants as atoms
 use Rattle.smarts_parse.specs.Pattern.{Term, Prim, Not, And, Or}
 use Rattle.matcher.specs.declared.plan.EarlierBonds.{EarlierBonds}
-
--- the class of an atom of that number: one for aromatic atoms and one for others, for each number modulo 32
-abbrev pub class_at : ℕ → Bool → ℕ
-class_at number true = number % 32 * 2 + 1
-class_at number false = number % 32 * 2
-
-abbrev pub class_of : Atom → ℕ
-class_of x = class_at x.number x.aromatic
 
 -- a primitive that is true at no atom of another class
 abbrev pub PrimMayBe : AtomPrim → ℕ → Type 0

@@ -1,5 +1,5 @@
 -- For private clauses alone: how the bonds of a graph narrow the atoms, of at most 64, at which its places may stand.
-use Rattle.std.specs.Prelude.{◌≡◌, ◌≢◌, ℕ, ◌+◌, ◌<◌, ◌≤◌, List, length, Bool, All, AllPairs, bit_and, bit_or, count_ones, slice_index, slice_index_or}
+use Rattle.std.specs.Prelude.{◌≡◌, ◌≢◌, ℕ, ◌+◌, ◌<◌, ◌≤◌, List, length, Bool, All, AllPairs, bit_and, bit_or, count_ones, slice_index, slice_index_or, IsTrue}
 use Rattle.std.specs.Int.{bit_at}
 use Rattle.chem_core.specs.Graph.{IsRingBond, JoinsAt}
 use Rattle.chem_core.specs.Molecule.{Molecule, ends_of}
@@ -7,7 +7,10 @@ use Rattle.smarts_parse.specs.Pattern.{GraphTerm, graph_of}
 use Rattle.smarts_parse.specs.Sound.{pattern_ends}
 use Rattle.matcher.specs.declared.task.Task.{Task}
 use Rattle.matcher.specs.declared.narrow.Around.{Around}
-use Rattle.matcher.specs.Ring.{AreOnRings, IsMarked}
+use Rattle.matcher.specs.declared.ring.Closing.{Closing}
+use Rattle.matcher.specs.declared.narrow.Pass.{Pass}
+use Rattle.matcher.specs.declared.narrow.Pass.TheVariants.{Refused, Changed, Stable}
+use Rattle.matcher.specs.Ring.{AreRingMarks, IsMarked}
 use Rattle.matcher.specs.Task.{Embeds}
 use Rattle.matcher.specs.Wanted.{IsWithin}
 
@@ -20,12 +23,12 @@ abbrev pub AreRingNear : Molecule → List ℕ → Type 0
 AreRingNear m near = (b x y : ℕ) → JoinsAt (ends_of m) b x y → IsRingBond (ends_of m) b
     → bit_at (slice_index near x) y ≡ 1
 
--- what was noted is so; that of all neighbours, if a bond of the graph is open, and that by ring bonds, if one is on a
--- ring
-pub record IsNoted (task : Task) (on_ring is_open : List Bool) (all ring : List ℕ) : Type 0 where
-  pub marks : AreOnRings task on_ring
-  pub near : (j : ℕ) → IsMarked is_open j → AreNear task.mol.now all
-  pub ring_near : (j : ℕ) → IsMarked on_ring j → AreRingNear task.mol.now ring
+-- what was noted is so: the bonds of the graph that are marked lie on rings, all neighbours are near, if a bond is open,
+-- and those by ring bonds, if one is on a ring
+pub record IsNoted (task : Task) (closing : Closing) (all ring : List ℕ) : Type 0 where
+  pub marks : AreRingMarks (graph_of task.graph.now) closing.on_ring.items
+  pub near : IsTrue closing.has_open → AreNear task.mol.now all
+  pub ring_near : IsTrue closing.has_ring → AreRingNear task.mol.now ring
 
 -- each embedding takes the ends of a marked bond to an atom and one of those near it
 abbrev pub IsReach : Task → List Bool → List ℕ → Type 0
@@ -60,3 +63,9 @@ more_around around word = record { count = around.count + 1; atoms = bit_or arou
 abbrev pub HasAround : Task → List ℕ → ℕ → Around → Type 0
 HasAround task near place around = (image : List ℕ) → Embeds task image
     → around.count ≤ count_ones (bit_and (slice_index near (slice_index image place)) around.atoms)
+
+-- what is promised of a pass that refuses
+abbrev pub IfRefused : Pass → Type 0 → Type 0
+IfRefused Refused P = P
+IfRefused Changed P = Unit {0}
+IfRefused Stable P = Unit {0}

@@ -3,11 +3,11 @@ use Rattle.std.specs.Prelude.{◌≡◌, ℕ, ◌+◌, ◌*◌, ◌<◌, ◌≤�
 use Rattle.std.specs.Int.{bit_at}
 use Rattle.chem_core.specs.declared.mol.Atom.{Atom}
 use Rattle.chem_core.specs.Molecule.{Molecule}
+use Rattle.chem_core.specs.Symbols.{class_of}
 use Rattle.smarts_mean.specs.Table.{HoldsIn, Table}
 use Rattle.smarts_parse.specs.Embedding.{PartsHold}
 use Rattle.smarts_parse.specs.Pattern.{GraphTerm}
 use Rattle.smarts_parse.specs.Sound.{IsSoundGraph}
-use Rattle.matcher.specs.Class.{class_of}
 use Rattle.matcher.specs.Partial.{CanComplete, Parts}
 
 -- what the recursive parts of a pattern keep

@@ -1,5 +1,6 @@
--- For private clauses alone: where each atom's bonds to earlier atoms stand among the bonds of a graph.
-use Rattle.std.specs.Prelude.{◌≡◌, ◌⊎◌, ℕ, ◌+◌, ◌<◌, ◌≤◌, List, drop, length, max, slice_get, slice_index, slice_index_or, take, Some}
+-- For private clauses alone: where each atom's bonds to earlier atoms stand among the bonds of a graph, and what else
+-- is known of the atom.
+use Rattle.std.specs.Prelude.{◌≡◌, ◌⊎◌, ℕ, ◌+◌, ◌-◌, ◌<◌, ◌≤◌, List, drop, false, length, max, slice_get, slice_index, slice_index_or, take, true, Some}
 use Rattle.smarts_parse.specs.declared.pattern.AtomPrim.{AtomPrim}
 use Rattle.smarts_parse.specs.Pattern.{BondTerm, GraphTerm, Term}
 use Rattle.matcher.specs.Class.{Covers}
@@ -8,7 +9,7 @@ use Rattle.matcher.specs.Partial.{IsSearchable}
 
 -- the step at a place; past the list's end an empty one
 abbrev pub step_at : List EarlierBonds → ℕ → EarlierBonds
-step_at steps k = slice_index_or steps k (record { from = 0; to = 0; classes = 0 })
+step_at steps k = slice_index_or steps k (record { from = 0; to = 0; classes = 0; again = false })
 
 -- Each of the first n bonds stands in the step of its higher end, and a step that is not empty begins with a bond whose
 -- higher end is its atom.
@@ -26,11 +27,20 @@ abbrev pub AreCovered : List (Term AtomPrim) → ℕ → List EarlierBonds → T
 AreCovered atoms n steps = (k : ℕ) → k < n → (d : Term AtomPrim)
     → Covers (step_at steps k).classes (slice_index_or atoms k d)
 
+-- the expression of an atom is that of the one before
+abbrev pub IsRepeat : List (Term AtomPrim) → ℕ → Type 0
+IsRepeat atoms k = (0 < k) × ((d : Term AtomPrim) → slice_index_or atoms (k - 1) d ≡ slice_index_or atoms k d)
+
+-- so it is wherever a step says it
+abbrev pub AreRepeats : List (Term AtomPrim) → ℕ → List EarlierBonds → Type 0
+AreRepeats atoms n steps = (k : ℕ) → k < n → (step_at steps k).again ≡ true → IsRepeat atoms k
+
 -- a graph that can be searched for, and its steps
 pub record IsReady (g : GraphTerm) (steps : List EarlierBonds) : Type 0 where
   pub searchable : IsSearchable g
   pub planned : ArePlanned g.bonds (length g.bonds) (length g.atoms) steps
   pub covered : AreCovered g.atoms (length g.atoms) steps
+  pub repeats : AreRepeats g.atoms (length g.atoms) steps
 
 -- the steps of a graph stand among others, from a place on
 pub record StandsAt (g : GraphTerm) (steps : List EarlierBonds) (begin : ℕ) : Type 0 where

@@ -1,10 +1,12 @@
 -- What is prepared for a pattern. For callers `IsPreparedFor`, of the scratch; the others for private clauses alone.
-use Rattle.std.specs.Prelude.{◌≤◌, length}
-use Rattle.smarts_parse.specs.Pattern.{PatternTerm}
+use Rattle.std.specs.Prelude.{◌≡◌, ℕ, ◌+◌, ◌≤◌, Bool, List, [], ◌∷◌, length, slice_get, Some, IfSome}
+use Rattle.smarts_parse.specs.declared.pattern.AtomPrim.TheVariants.{Rec}
+use Rattle.smarts_parse.specs.Pattern.{GraphTerm, PatternTerm, Prim}
 use Rattle.matcher.specs.declared.planned.Plans.{Plans}
 use Rattle.matcher.specs.declared.prepare.Prepared.{Prepared}
 use Rattle.matcher.specs.declared.scratch.Scratch.{Scratch}
 use Rattle.matcher.specs.Plan.{ArePartsPlanned, StandsAt}
+use Rattle.matcher.specs.Ring.{AreRingMarks}
 use Rattle.matcher.specs.Wanted.{AreWanted}
 
 -- the steps of all graphs are those of the pattern's
@@ -13,10 +15,21 @@ pub record IsPlanned (p : PatternTerm) (plans : Plans) : Type 0 where
   pub top : StandsAt p.top plans.steps.items 0
   pub parts : ArePartsPlanned p.recs (length p.recs) plans.steps.items plans.begins.items
 
+-- the pattern asks for its last recursive part at one atom, and for nothing else
+abbrev pub IsOnlyPart : PatternTerm → ℕ → Type 0
+IsOnlyPart p part = (part + 1 ≡ length p.recs) × (p.top.atoms ≡ Prim (Rec part) ∷ [])
+
+-- the marks of bonds on rings are of the part
+abbrev pub ArePartMarks : PatternTerm → List Bool → ℕ → Type 0
+ArePartMarks p marks part = (g : GraphTerm) → slice_get p.recs part ≡ Some g → AreRingMarks g marks
+
 -- what was worked out is of the pattern
 pub record IsPrepared (p : PatternTerm) (prepared : Prepared) : Type 0 where
   pub planned : IsPlanned p prepared.plans
   pub wanted : AreWanted p prepared.wanted.classes.items
+  pub only : IfSome prepared.part (IsOnlyPart p)
+  pub top_marks : AreRingMarks p.top prepared.closing.on_ring.items
+  pub part_marks : IfSome prepared.part (ArePartMarks p prepared.closing.on_ring.items)
 
 -- the scratch was prepared for the pattern
 abbrev pub IsPreparedFor : PatternTerm → Scratch → Type 0

@@ -9,6 +9,7 @@ ghost use Rattle.matcher.specs.Least.{IsLeast};
 ghost use Rattle.matcher.specs.Partial.{CanComplete};
 ghost use Rattle.matcher.specs.Plan.{IsReady};
 ghost use Rattle.matcher.specs.Prepared.{IsPrepared};
+ghost use Rattle.matcher.specs.Ring.{AreRingMarks};
 ghost use Rattle.matcher.specs.Task.{Completes, IsReadyTask};
 
 use crate::candidates::Candidates;
@@ -20,9 +21,9 @@ use crate::lean::place_least;
 use crate::narrow::{Narrowing, may_narrow};
 use crate::parts::note_parts;
 use crate::plan::{EarlierBonds, is_loose};
-use crate::prepare::{Prepared, only_part};
+use crate::prepare::Prepared;
 use crate::refusal::{has_bond, is_crowded, lacks_atom};
-use crate::ring::lacks_ring;
+use crate::ring::{Closing, lacks_ring};
 use crate::scratch::{Memory, Scratch};
 use crate::task::Task;
 use chem_core::Mol;
@@ -91,7 +92,7 @@ fn matches(pattern: &Pattern, prepared: &Prepared, mol: &Mol, memory: &mut Memor
     if lacks_atom(pattern, prepared.plans.top(pattern), mol) {
         return false;
     }
-    match only_part(pattern) {
+    match prepared.part {
         Some(part) => {
             note_parts(pattern, prepared, mol, memory, part);
             let steps = prepared.plans.part(pattern, part);
@@ -113,7 +114,8 @@ fn exists(
     mol: &Mol,
     memory: &mut Memory,
 ) -> bool
-    requires { IsReady (graph_of graph.now) steps.now }
+    requires ready { IsReady (graph_of graph.now) steps.now }
+    requires marks { AreRingMarks (graph_of graph.now) prepared.now.closing.on_ring.items }
     ensures { IsTrue result ↔ CanComplete (HoldsIn memory.old.table) (graph_of graph.now) mol.now [] }
 {
     let task = Task {
@@ -125,7 +127,7 @@ fn exists(
     let candidates = &mut memory.candidates;
     if is_refused(
         &task,
-        prepared.closing.bonds(),
+        &prepared.closing,
         candidates,
         &mut memory.narrowing,
         &mut memory.grouping,
@@ -244,7 +246,7 @@ fn find(pattern: &Pattern, prepared: &Prepared, mol: &Mol, memory: &mut Memory) 
     let candidates = &mut memory.candidates;
     if is_refused(
         &task,
-        prepared.closing.bonds(),
+        &prepared.closing,
         candidates,
         &mut memory.narrowing,
         &mut memory.grouping,
@@ -256,21 +258,22 @@ fn find(pattern: &Pattern, prepared: &Prepared, mol: &Mol, memory: &mut Memory) 
     place_least(&task, &memory.candidates, image, &mut memory.choices)
 }
 
-// Whether it is found before any search that the graph, of which these bonds may close rings, has no embedding. If not,
+// Whether it is found before any search that the graph, of which bonds on rings are marked, has no embedding. If not,
 // the candidates of its places are found.
 fn is_refused(
     task: &Task,
-    closing: &[u16],
+    closing: &Closing,
     candidates: &mut Candidates,
     narrowing: &mut Narrowing,
     grouping: &mut Grouping,
     choices: &mut Choices,
 ) -> bool
-    requires { IsReadyTask task.now }
+    requires ready { IsReadyTask task.now }
+    requires marks { AreRingMarks (graph_of task.now.graph.now) closing.now.on_ring.items }
     ensures refused { IsTrue result → ¬ Completes task.now [] }
     ensures candidates { result ≡ false → AreCandidates task.now candidates.new.words.items }
 {
-    if !may_narrow(task) && lacks_ring(task, closing) {
+    if !may_narrow(task) && lacks_ring(task, closing.bonds()) {
         return true;
     }
     if task.graph.atoms.len() > FEW_PLACES && is_crowded(task) {

@@ -134,15 +134,12 @@ fn word_at(task: &Task, words: &[u64], block: usize, place: usize) -> u64
         → IsTruthAt task.now block p (slice_index words.now (256 * block + p)) }
     ensures { IsTruthAt task.now block place result }
 {
-    if place == 0 {
-        return place_truth(task, block, place);
+    let step = task.steps[place];
+    if step.again {
+        words[MOST_PLACES * block + (place - 1)]
+    } else {
+        place_truth(task, block, place)
     }
-    let before = &task.graph.atoms[place - 1];
-    let expr = &task.graph.atoms[place];
-    if !is_same(before, expr) {
-        return place_truth(task, block, place);
-    }
-    words[MOST_PLACES * block + (place - 1)]
 }
 
 // At which atoms of a block the expression of a place is true.
@@ -163,19 +160,6 @@ pub fn all_in(mol: &Mol, block: usize) -> u64
     ensures { (i : ℕ) → i < 64 → bit_at result i ≡ 1 ↔ 64 * block + i < length mol.now.atoms }
 {
     ones(mol.atoms().len().saturating_sub(64 * block).min(64))
-}
-
-// Whether the expressions are the same, as far as is seen at once.
-fn is_same(one: &Expr<AtomPrim>, two: &Expr<AtomPrim>) -> bool
-    ensures { IsTrue result → term_of one.now ≡ term_of two.now }
-{
-    let Expr::Prim(left) = one else {
-        return false;
-    };
-    let Expr::Prim(right) = two else {
-        return false;
-    };
-    *left == *right
 }
 
 // The word with as many ones.
@@ -212,7 +196,7 @@ fn truth(expr: &Expr<AtomPrim>, mol: &Mol, table: &RecTable, block: usize, withi
     }
 }
 
-// The same of a primitive. Most are a symbol or a number, which have loops of their own. A part has a row of words.
+// The same of a primitive. Most are a symbol or a number, which are found at once. A part has a row of words.
 fn prim_truth(prim: AtomPrim, mol: &Mol, table: &RecTable, block: usize, within: u64) -> u64
     requires names { PrimNamesBelow MOST_PARTS prim }
     requires block { block < 16 }
@@ -227,8 +211,21 @@ fn prim_truth(prim: AtomPrim, mol: &Mol, table: &RecTable, block: usize, within:
     }
 }
 
-// The same of a symbol. The word is made from the last atom down, without a branch.
+// The same of a symbol. Those of the first block are found at once.
 fn symbol_truth(mol: &Mol, block: usize, within: u64, number: u8, lower: bool) -> u64
+    requires { block < 16 }
+    ensures { (t : Table)
+        → IsTruth (HoldsIn t) mol.now (Prim (AtomPrim.Symbol number lower)) block within result }
+{
+    if block == 0 {
+        mol.symbol_word(number, lower) & within
+    } else {
+        symbol_truth_by_atom(mol, block, within, number, lower)
+    }
+}
+
+// The same where each atom is asked. The word is made from the last atom down, without a branch.
+fn symbol_truth_by_atom(mol: &Mol, block: usize, within: u64, number: u8, lower: bool) -> u64
     requires { block < 16 }
     ensures { (t : Table)
         → IsTruth (HoldsIn t) mol.now (Prim (AtomPrim.Symbol number lower)) block within result }
@@ -241,8 +238,22 @@ fn symbol_truth(mol: &Mol, block: usize, within: u64, number: u8, lower: bool) -
     word & within
 }
 
-// The same of a number, in the same way.
+// The same of a number, aromatic or not. One above 255, which is at no atom, is asked as in a later block.
 fn number_truth(mol: &Mol, block: usize, within: u64, number: u16) -> u64
+    requires { block < 16 }
+    ensures { (t : Table)
+        → IsTruth (HoldsIn t) mol.now (Prim (AtomPrim.Number number)) block within result }
+{
+    match u8::try_from(number) {
+        Ok(byte) if block == 0 => {
+            (mol.symbol_word(byte, false) | mol.symbol_word(byte, true)) & within
+        }
+        _ => number_truth_by_atom(mol, block, within, number),
+    }
+}
+
+// The same where each atom is asked.
+fn number_truth_by_atom(mol: &Mol, block: usize, within: u64, number: u16) -> u64
     requires { block < 16 }
     ensures { (t : Table)
         → IsTruth (HoldsIn t) mol.now (Prim (AtomPrim.Number number)) block within result }

@@ -1,12 +1,13 @@
-//! Classes of atoms, by which most atoms are seen at once not to be what an expression asks: the atomic number and
-//! whether the atom is aromatic, modulo 64. A set of classes is a word with a bit for each.
-ghost use Rattle.std.specs.Prelude.{◌≡◌, ◌<◌, ℕ, ◌↔◌, length, slice_index_or, All, IsTrue};
+//! Of what classes an atom may be at which an expression is true. By these most atoms are seen at once not to be what
+//! it asks. A set of classes is a word with a bit for each.
+ghost use Rattle.std.specs.Prelude.{◌≡◌, ◌<◌, ℕ, ◌↔◌, IsTrue};
 ghost use Rattle.std.specs.Int.{bit_at};
 ghost use Rattle.chem_core.specs.declared.mol.Atom.{Atom};
+ghost use Rattle.chem_core.specs.Symbols.{class_at, class_of};
 ghost use Rattle.smarts_parse.specs.Pattern.{term_of};
-ghost use Rattle.matcher.specs.Class.{class_at, class_of, Covers, PrimMayBe};
+ghost use Rattle.matcher.specs.Class.{Covers, PrimMayBe};
 
-use chem_core::Atom;
+use chem_core::{Atom, class};
 use smarts_parse::{AtomPrim, Expr};
 
 /// Whether the atom is of one of the classes.
@@ -39,28 +40,9 @@ fn prim_classes(prim: AtomPrim) -> u64
     }
 }
 
-/// The classes of the atoms.
-pub fn classes_in(atoms: &[Atom]) -> u64
-    ensures { All (λ x. bit_at result (class_of x) ≡ 1) atoms.now }
-{
-    let mut all = 0;
-    for atom in atoms {
-        all |= only(u16::from(atom.number), atom.aromatic);
-    }
-    all
-}
-
 // The class alone of the atoms of that number.
 fn only(number: u16, aromatic: bool) -> u64
     ensures { bit_at result (class_at number aromatic) ≡ 1 }
 {
     1 << class(number, aromatic)
-}
-
-// The class of an atom of that number.
-fn class(number: u16, aromatic: bool) -> u16
-    ensures value { result ≡ class_at number aromatic }
-    ensures few { result < 64 }
-{
-    number % 32 * 2 + u16::from(aromatic)
 }

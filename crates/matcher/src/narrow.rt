@@ -1,17 +1,17 @@
 //! Fewer candidates of the places of a graph, in a molecule of at most 64 atoms. One that has fewer neighbours among
 //! the candidates of the places next to it than there are such places is no candidate (Ullmann 1976; Solnon 2010).
 //! Where a place has none left, the graph has no embedding.
-ghost use Rattle.std.specs.Prelude.{◌≡◌, ◌≢◌, ◌<◌, ◌≤◌, ◌↔◌, [], ℕ, bit_and, count_ones, false, length, slice_index, slice_index_or, vec_len, IsTrue};
+ghost use Rattle.std.specs.Prelude.{◌≡◌, ◌≢◌, ◌<◌, ◌≤◌, ◌↔◌, [], ℕ, bit_and, count_ones, length, slice_index, vec_len, IfSome, IsTrue};
 ghost use Rattle.std.specs.Int.{bit_at};
 ghost use Rattle.smarts_parse.specs.Pattern.{graph_of};
 ghost use Rattle.matcher.specs.Candidates.{AreCandidates};
-ghost use Rattle.matcher.specs.Narrow.{AreNear, AreRingNear, HasAround, IsNarrowed, IsReach, around_at, more_around};
-ghost use Rattle.matcher.specs.Ring.{AreOnRings, IsMarked};
+ghost use Rattle.matcher.specs.Narrow.{AreNear, AreRingNear, HasAround, IfRefused, IsNarrowed, IsReach, around_at, more_around};
+ghost use Rattle.matcher.specs.Ring.{AreRingMarks};
 ghost use Rattle.matcher.specs.Task.{Completes, IsReadyTask};
 
 use crate::candidates::{Candidates, MOST_BITS, MOST_WORDS};
 use crate::planned::MOST_PLACES;
-use crate::ring::mark_rings;
+use crate::ring::{Closing, is_marked};
 use crate::task::Task;
 use chem_core::Mol;
 use std::alloc::{AllocError, Global};
@@ -42,13 +42,8 @@ struct Reach {
     // for each atom its neighbours, and those by ring bonds
     near: Vec<u64>,
     ring_near: Vec<u64>,
-    // for each bond of the graph whether it is known to lie on a ring of the graph
-    on_ring: Vec<bool>,
-    // the same for all bonds: whether some bond is not known to
-    is_open: Vec<bool>,
     ghost near_room: { vec_len near ≡ 64 },
     ghost ring_near_room: { vec_len ring_near ≡ 64 },
-    ghost on_ring_room: { vec_len on_ring ≡ 256 },
 }
 
 /// As many places, all different, and atoms with all their candidates.
@@ -60,6 +55,17 @@ struct Around {
 
 /// No places.
 const NONE_AROUND: Around = Around { count: 0, atoms: 0 };
+
+// What a pass over the places of a graph did.
+#[derive(Clone, Copy)]
+enum Pass {
+    // a place has no candidate left
+    Refused,
+    // some candidates are taken away
+    Changed,
+    // none is
+    Stable,
+}
 
 // What is left of a word by what is around.
 #[derive(Clone, Copy)]
@@ -91,10 +97,11 @@ impl Narrowing {
         self.credit = MOST_CREDIT;
     }
 
-    /// Takes away candidates, if that pays for the pattern, of which these bonds may close rings. Whether it is found
-    /// that the graph has no embedding.
-    pub fn refuse(&mut self, task: &Task, closing: &[u16], candidates: &mut Candidates) -> bool
+    /// Takes away candidates, if that pays for the pattern. Whether it is found that the graph, of which bonds on rings
+    /// are marked, has no embedding.
+    pub fn refuse(&mut self, task: &Task, closing: &Closing, candidates: &mut Candidates) -> bool
         requires ready { IsReadyTask task.now }
+        requires marks { AreRingMarks (graph_of task.now.graph.now) closing.now.on_ring.items }
         requires candidates { AreCandidates task.now candidates.old.words.items }
         ensures refused { IsTrue result → ¬ Completes task.now [] }
         ensures candidates { AreCandidates task.now candidates.new.words.items }
@@ -105,9 +112,9 @@ impl Narrowing {
         if task.mol.atoms().len() > MOST_BITS {
             return false;
         }
-        self.reach.note(task, closing);
+        self.reach.note(task.mol, closing);
         let words = &mut candidates.words;
-        let refused = self.reach.narrow(task, &mut self.around, words);
+        let refused = self.reach.narrow(task, closing, &mut self.around, words);
         self.credit = if refused {
             self.credit.saturating_add(2).min(MOST_CREDIT)
         } else {
@@ -130,158 +137,149 @@ impl Reach {
         Ok(Reach {
             near: vec![in alloc; 0; MOST_BITS]?,
             ring_near: vec![in alloc; 0; MOST_BITS]?,
-            on_ring: vec![in alloc; false; MOST_PLACES]?,
-            is_open: vec![in alloc; true; MOST_PLACES]?,
         })
     }
 
-    // Notes the neighbours of each atom, and which bonds of the graph lie on its rings.
-    fn note(&mut self, task: &Task, closing: &[u16])
-        requires ready { IsReadyTask task.now }
-        requires few { length task.now.mol.now.atoms ≤ 64 }
-        ensures { IsNoted task.now self.new.on_ring.items self.new.is_open.items self.new.near.items
-            self.new.ring_near.items }
+    // Notes the neighbours of each atom: all, if a bond of the graph is open, and those by ring bonds, if one is on a
+    // ring.
+    fn note(&mut self, mol: &Mol, closing: &Closing)
+        requires few { length mol.now.atoms ≤ 64 }
+        ensures near { IsTrue closing.now.has_open → AreNear mol.now self.new.near.items }
+        ensures ring_near { IsTrue closing.now.has_ring → AreRingNear mol.now self.new.ring_near.items }
     {
-        note_rings(task, closing, &mut self.on_ring, &mut self.ring_near);
-        let open = !has_all(task, &self.on_ring);
-        note_open(task.mol, open, &mut self.is_open, &mut self.near);
+        note_neighbours(mol, closing.has_open, &mut self.near);
+        note_ring_neighbours(mol, closing.has_ring, &mut self.ring_near);
     }
 
     // Takes away candidates of each place. Whether one has none left.
-    fn narrow(&self, task: &Task, around: &mut [Around], words: &mut [u64]) -> bool
+    fn narrow(
+        &self,
+        task: &Task,
+        closing: &Closing,
+        around: &mut [Around],
+        words: &mut [u64],
+    ) -> bool
         requires ready { IsReadyTask task.now }
         requires room { length words.old ≡ MOST_WORDS }
         requires around { length around.old ≡ 256 }
         requires few { length task.now.mol.now.atoms ≤ 64 }
-        requires noted { IsNoted task.now self.now.on_ring.items self.now.is_open.items self.now.near.items
-            self.now.ring_near.items }
+        requires noted { IsNoted task.now closing.now self.now.near.items self.now.ring_near.items }
         requires candidates { AreCandidates task.now words.old }
         ensures refused { IsTrue result → ¬ Completes task.now [] }
         ensures candidates { AreCandidates task.now words.new }
     {
         for _ in 0..ROUNDS {
-            if self.narrow_once(task, around, words) {
-                return true;
+            match self.narrow_once(task, closing, around, words) {
+                Pass::Refused => return true,
+                Pass::Changed => {}
+                Pass::Stable => return false,
             }
         }
         false
     }
 
     // The same in one pass: by bonds on rings first.
-    fn narrow_once(&self, task: &Task, around: &mut [Around], words: &mut [u64]) -> bool
+    fn narrow_once(
+        &self,
+        task: &Task,
+        closing: &Closing,
+        around: &mut [Around],
+        words: &mut [u64],
+    ) -> Pass
         requires ready { IsReadyTask task.now }
         requires room { length words.old ≡ MOST_WORDS }
         requires around { length around.old ≡ 256 }
         requires few { length task.now.mol.now.atoms ≤ 64 }
-        requires noted { IsNoted task.now self.now.on_ring.items self.now.is_open.items self.now.near.items
-            self.now.ring_near.items }
+        requires noted { IsNoted task.now closing.now self.now.near.items self.now.ring_near.items }
         requires candidates { AreCandidates task.now words.old }
-        ensures refused { IsTrue result → ¬ Completes task.now [] }
+        ensures refused { IfRefused result (¬ Completes task.now []) }
         ensures candidates { AreCandidates task.now words.new }
     {
-        narrow_all(task, &self.on_ring, &self.ring_near, around, words)
-            || narrow_all(task, &self.is_open, &self.near, around, words)
+        match narrow_all(task, closing.rings(), &self.ring_near, around, words) {
+            Pass::Refused => Pass::Refused,
+            by_rings => match narrow_all(task, closing.all(), &self.near, around, words) {
+                Pass::Stable => by_rings,
+                by_all => by_all,
+            },
+        }
     }
 }
 
-// Notes which bonds of the graph lie on its rings, and if some may, for each atom its neighbours by ring bonds.
-fn note_rings(task: &Task, closing: &[u16], on_ring: &mut [bool], near: &mut [u64])
-    requires ready { IsReadyTask task.now }
-    requires atoms { length task.now.mol.now.atoms ≤ 64 }
+// Notes for each atom its neighbours, if these are asked for.
+fn note_neighbours(mol: &Mol, is_asked: bool, near: &mut [u64])
+    requires atoms { length mol.now.atoms ≤ 64 }
     requires room { length near.old ≡ 64 }
-    ensures marks { AreOnRings task.now on_ring.new }
-    ensures near { (j : ℕ) → IsMarked on_ring.new j → AreRingNear task.now.mol.now near.new }
+    ensures { IsTrue is_asked → AreNear mol.now near.new }
 {
-    if closing.is_empty() {
-        on_ring.fill(false);
+    if !is_asked {
         return;
     }
-    mark_rings(task, closing, on_ring);
-    note_ring_neighbours(task.mol, near);
-}
-
-// Notes the same for all bonds of the graph: whether some are open. Only by these are all neighbours near.
-fn note_open(mol: &Mol, open: bool, is_open: &mut [bool], near: &mut [u64])
-    requires atoms { length mol.now.atoms ≤ 64 }
-    requires room { length near.old ≡ 64 }
-    ensures { (j : ℕ) → IsMarked is_open.new j → AreNear mol.now near.new }
-{
-    is_open.fill(open);
-    if open {
-        note_neighbours(mol, near);
-    }
-}
-
-// Notes for each atom its neighbours.
-fn note_neighbours(mol: &Mol, near: &mut [u64])
-    requires atoms { length mol.now.atoms ≤ 64 }
-    requires room { length near.old ≡ 64 }
-    ensures { AreNear mol.now near.new }
-{
     near.fill(0);
     let bonds = mol.bonds();
     for bond in bonds {
-        join(near, bond.a, bond.b);
-        join(near, bond.b, bond.a);
+        join(near, bond.a, bond.b, 1);
+        join(near, bond.b, bond.a, 1);
     }
 }
 
-// Notes for each atom its neighbours by ring bonds.
-fn note_ring_neighbours(mol: &Mol, near: &mut [u64])
+// Notes for each atom its neighbours by ring bonds, if these are asked for. No branch for each bond: which are ring
+// bonds is hard to foresee.
+fn note_ring_neighbours(mol: &Mol, is_asked: bool, near: &mut [u64])
     requires atoms { length mol.now.atoms ≤ 64 }
     requires room { length near.old ≡ 64 }
-    ensures { AreRingNear mol.now near.new }
+    ensures { IsTrue is_asked → AreRingNear mol.now near.new }
 {
+    if !is_asked {
+        return;
+    }
     near.fill(0);
     let bonds = mol.bonds();
     for place in 0..bonds.len() as u16 {
-        if !mol.ring_bond(place) {
-            continue;
-        }
+        let ring = u64::from(mol.ring_bond(place));
         let bond = bonds[usize::from(place)];
-        join(near, bond.a, bond.b);
-        join(near, bond.b, bond.a);
+        join(near, bond.a, bond.b, ring);
+        join(near, bond.b, bond.a, ring);
     }
 }
 
-// Notes that an atom has another as its neighbour.
-fn join(near: &mut [u64], atom: u16, other: u16)
+// Notes that an atom has another as its neighbour, if the bit is 1.
+fn join(near: &mut [u64], atom: u16, other: u16, bit: u64)
     requires atom { atom < length near.old }
     requires other { other < 64 }
-    ensures here { bit_at (slice_index near.new atom) other ≡ 1 }
+    ensures here { bit ≡ 1 → bit_at (slice_index near.new atom) other ≡ 1 }
     ensures kept { (x y : ℕ) → bit_at (slice_index near.old x) y ≡ 1
         → bit_at (slice_index near.new x) y ≡ 1 }
 {
-    near[usize::from(atom)] |= 1 << other;
+    near[usize::from(atom)] |= bit << other;
 }
 
-// Takes away candidates of each place by marked bonds, if there are some. Whether one has none left.
+// Takes away candidates of each place by marked bonds, if there are some.
 fn narrow_all(
     task: &Task,
-    marks: &[bool],
+    marks: Option<&[bool]>,
     near: &[u64],
     around: &mut [Around],
     words: &mut [u64],
-) -> bool
+) -> Pass
     requires ready { IsReadyTask task.now }
     requires room { length words.old ≡ MOST_WORDS }
     requires around { length around.old ≡ 256 }
     requires atoms { length near.now ≡ 64 }
     requires few { length task.now.mol.now.atoms ≤ 64 }
-    requires reach { IsReach task.now marks.now near.now }
+    requires reach { IfSome marks (λ bonds. IsReach task.now bonds.now near.now) }
     requires candidates { AreCandidates task.now words.old }
     ensures candidates { AreCandidates task.now words.new }
-    ensures refused { IsTrue result → ¬ Completes task.now [] }
+    ensures refused { IfRefused result (¬ Completes task.now []) }
 {
-    if !has_mark(task, marks) {
-        return false;
-    }
+    let Some(marks) = marks else {
+        return Pass::Stable;
+    };
     gather(task, marks, near, words, around);
     narrow_words(task, near, around, words)
 }
 
-// Takes away candidates of each place by what is around it. Whether one has none left.
-fn narrow_words(task: &Task, near: &[u64], around: &[Around], words: &mut [u64]) -> bool
+// Takes away candidates of each place by what is around it.
+fn narrow_words(task: &Task, near: &[u64], around: &[Around], words: &mut [u64]) -> Pass
     requires ready { IsReadyTask task.now }
     requires room { length words.old ≡ MOST_WORDS }
     requires around_room { length around.now ≡ 256 }
@@ -291,17 +289,19 @@ fn narrow_words(task: &Task, near: &[u64], around: &[Around], words: &mut [u64])
         → HasAround task.now near.now p (around_at around.now p) }
     requires candidates { AreCandidates task.now words.old }
     ensures candidates { AreCandidates task.now words.new }
-    ensures refused { IsTrue result → ¬ Completes task.now [] }
+    ensures refused { IfRefused result (¬ Completes task.now []) }
 {
     let mut last = NONE_NARROWED;
+    let mut changed = false;
     for place in 0..task.graph.atoms.len() {
         last = narrow_word(near, words[place], around[place], last);
+        changed |= last.kept != words[place];
         words[place] = last.kept;
         if words[place] == 0 {
-            return true;
+            return Pass::Refused;
         }
     }
-    false
+    if changed { Pass::Changed } else { Pass::Stable }
 }
 
 // What is left of a word by what is around, which often is as it was for the place before.
@@ -366,35 +366,6 @@ fn lead(around: &mut [Around], words: &[u64], from: u16, to: u16)
         count: before.count + 1,
         atoms: before.atoms | words[usize::from(to)],
     };
-}
-
-// Whether some bond of the graph is marked.
-fn has_mark(task: &Task, marks: &[bool]) -> bool {
-    for index in 0..task.graph.bonds.len() {
-        if is_marked(marks, index) {
-            return true;
-        }
-    }
-    false
-}
-
-// Whether all are.
-fn has_all(task: &Task, marks: &[bool]) -> bool {
-    for index in 0..task.graph.bonds.len() {
-        if !is_marked(marks, index) {
-            return false;
-        }
-    }
-    true
-}
-
-fn is_marked(marks: &[bool], index: usize) -> bool
-    ensures { result ≡ slice_index_or marks.now index false }
-{
-    match marks.get(index) {
-        Some(mark) => *mark,
-        None => false,
-    }
 }
 
 // Those atoms in the word that have as many neighbours around.

@@ -1,12 +1,12 @@
-//! Steps: for each atom of a graph where its bonds to earlier atoms stand, so that they are found at once, and of what
-//! classes it may be.
-ghost use Rattle.std.specs.Prelude.{◌≡◌, ◌≢◌, ◌+◌, ◌-◌, ◌<◌, ◌≤◌, drop, length, take};
-ghost use Rattle.smarts_parse.specs.Pattern.{graph_of};
+//! Steps: for each atom of a graph where its bonds to earlier atoms stand, so that they are found at once, of what
+//! classes it may be, and whether its expression is that of the atom before it.
+ghost use Rattle.std.specs.Prelude.{◌≡◌, ◌≢◌, ◌+◌, ◌-◌, ◌<◌, ◌≤◌, drop, length, take, IsTrue};
+ghost use Rattle.smarts_parse.specs.Pattern.{graph_of, term_of};
 ghost use Rattle.matcher.specs.Partial.{IsSearchable};
-ghost use Rattle.matcher.specs.Plan.{IsReady};
+ghost use Rattle.matcher.specs.Plan.{IsReady, IsRepeat};
 
 use crate::class::classes_of;
-use smarts_parse::{Graph, PatBond};
+use smarts_parse::{AtomPrim, Expr, Graph, PatBond};
 
 /// Where an atom's bonds to earlier atoms stand among the bonds of a graph: none before `from`, none from `to` on.
 /// Bonds of other atoms may stand between them. It is empty where the atom has none.
@@ -16,6 +16,8 @@ pub struct EarlierBonds {
     pub to: usize,
     /// The classes of the atoms at which the atom may stand.
     pub classes: u64,
+    /// Whether the atom's expression is that of the atom before it, as far as is seen at once.
+    pub again: bool,
 }
 
 /// The step of an atom that has no bond to an earlier one.
@@ -23,6 +25,7 @@ pub const NONE_EARLIER: EarlierBonds = EarlierBonds {
     from: 0,
     to: 0,
     classes: 0,
+    again: false,
 };
 
 impl EarlierBonds {
@@ -33,11 +36,13 @@ impl EarlierBonds {
         ensures again { self.to ≢ 0 → result.from ≡ self.from }
         ensures to { result.to ≡ place + 1 }
         ensures classes { result.classes ≡ self.classes }
+        ensures repeat { result.again ≡ self.again }
     {
         EarlierBonds {
             from: if self.to == 0 { place } else { self.from },
             to: place + 1,
             classes: self.classes,
+            again: self.again,
         }
     }
 
@@ -63,6 +68,7 @@ pub fn plan(graph: &Graph, steps: &mut [EarlierBonds])
     for atom in 0..graph.atoms.len() {
         steps[atom] = EarlierBonds {
             classes: classes_of(&graph.atoms[atom]),
+            again: is_repeat(graph, atom),
             ..NONE_EARLIER
         };
     }
@@ -70,6 +76,30 @@ pub fn plan(graph: &Graph, steps: &mut [EarlierBonds])
         let high = usize::from(bond.a.max(bond.b));
         steps[high] = steps[high].with(place);
     }
+}
+
+// Whether an atom's expression is that of the atom before it, as far as is seen at once.
+fn is_repeat(graph: &Graph, atom: usize) -> bool
+    requires { atom < length graph.now.atoms.items }
+    ensures { IsTrue result → IsRepeat (graph_of graph.now).atoms atom }
+{
+    if atom == 0 {
+        return false;
+    }
+    is_same(&graph.atoms[atom - 1], &graph.atoms[atom])
+}
+
+// Whether the expressions are the same, as far as is seen at once.
+fn is_same(one: &Expr<AtomPrim>, two: &Expr<AtomPrim>) -> bool
+    ensures { IsTrue result → term_of one.now ≡ term_of two.now }
+{
+    let Expr::Prim(left) = one else {
+        return false;
+    };
+    let Expr::Prim(right) = two else {
+        return false;
+    };
+    *left == *right
 }
 
 /// Whether an atom other than the first has no bond to an earlier one.

@@ -1,7 +1,9 @@
 //! What is worked out of a pattern alone, once for searches in any number of molecules: the steps of its graphs, the
-//! atoms at which its recursive parts are asked, an order for the search, and the bonds that may close rings.
-ghost use Rattle.std.specs.Prelude.{◌≡◌, ◌+◌, ◌∷◌, [], length, map, IfSome};
-ghost use Rattle.smarts_parse.specs.Pattern.{Prim, term_of};
+//! atoms at which its recursive parts are asked, an order for the search, and the bonds that close
+//! rings or lie on them.
+ghost use Rattle.std.specs.Prelude.{IfSome};
+ghost use Rattle.smarts_parse.specs.Pattern.{pattern_of};
+ghost use Rattle.matcher.specs.Prepared.{IsOnlyPart};
 
 use crate::lay::Order;
 use crate::planned::Plans;
@@ -17,10 +19,11 @@ pub struct Prepared {
     pub wanted: Wanted,
     pub order: Order,
     pub closing: Closing,
+    /// The number of the last recursive part, if the pattern asks for this part at one atom and for nothing else.
+    pub part: Option<usize>,
 }
 
 impl Prepared {
-    ghost use Rattle.smarts_parse.specs.Pattern.{pattern_of};
     ghost use Rattle.smarts_parse.specs.Sound.{IsSoundPattern};
     ghost use Rattle.matcher.specs.Prepared.{IsPrepared};
 
@@ -31,6 +34,7 @@ impl Prepared {
             wanted: Wanted::reserve(alloc)?,
             order: Order::reserve(alloc)?,
             closing: Closing::reserve(alloc)?,
+            part: None,
         })
     }
 
@@ -41,7 +45,9 @@ impl Prepared {
     {
         self.plans.plan(pattern);
         self.wanted.find(pattern);
-        match only_part(pattern) {
+        let part = only_part(pattern);
+        self.part = part;
+        match part {
             Some(part) => {
                 let steps = self.plans.part(pattern, part);
                 self.order.lay(&pattern.recs[part], steps);
@@ -56,10 +62,9 @@ impl Prepared {
     }
 }
 
-/// The number of the last recursive part, if the pattern asks for this part at one atom and for nothing else.
-pub fn only_part(pattern: &Pattern) -> Option<usize>
-    ensures { IfSome result (λ part. (part + 1 ≡ length pattern.now.recs.items)
-        × (map term_of pattern.now.top.atoms.items ≡ Prim (AtomPrim.Rec part) ∷ [])) }
+// The number of the last recursive part, if the pattern asks for this part at one atom and for nothing else.
+fn only_part(pattern: &Pattern) -> Option<usize>
+    ensures { IfSome result (IsOnlyPart (pattern_of pattern.now)) }
 {
     if pattern.top.atoms.len() != 1 {
         return None;

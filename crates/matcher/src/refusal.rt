@@ -12,41 +12,28 @@ ghost use Rattle.matcher.specs.Plan.{IsReady};
 ghost use Rattle.matcher.specs.Task.{Completes, Embeds, IsReadyTask};
 
 use crate::candidates::Candidates;
-use crate::class::{classes_in, may_be};
+use crate::class::may_be;
 use crate::fit::is_new;
 use crate::group::{begins_group, keeps_groups};
 use crate::plan::EarlierBonds;
 use crate::task::Task;
 use chem_core::{Atom, Mol};
 use smarts_mean::bond_true;
-use smarts_parse::{Expr, Graph, PatBond, Pattern};
+use smarts_parse::{PatBond, Pattern};
 
 /// Whether an atom of the pattern's top graph, of which the steps are given, may stand at no atom of the molecule, as
-/// far as classes show. Of a graph of primitives alone it is sooner found at which atoms they are true.
+/// far as classes show. The molecule keeps the classes of its atoms, so this costs a few steps.
 pub fn lacks_atom(pattern: &Pattern, steps: &[EarlierBonds], mol: &Mol) -> bool
     requires { IsReady (graph_of pattern.now.top) steps.now }
     ensures { IsTrue result → ¬ Matches (pattern_of pattern.now) mol.now }
 {
-    if is_plain(&pattern.top) {
-        return false;
-    }
-    let present = classes_in(mol.atoms());
+    let present = mol.classes();
     for step in &steps[..pattern.top.atoms.len()] {
         if step.classes & present == 0 {
             return true;
         }
     }
     false
-}
-
-// Whether each expression of a graph is a primitive.
-fn is_plain(graph: &Graph) -> bool {
-    for expr in &graph.atoms {
-        let Expr::Prim(_) = expr else {
-            return false;
-        };
-    }
-    true
 }
 
 /// Whether the places of a graph that are marked are more than the atoms that are marked, and can stand, where the

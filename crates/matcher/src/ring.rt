@@ -5,8 +5,8 @@ ghost use Rattle.chem_core.specs.Graph.{IsSimpleCycle, JoinsAt};
 ghost use Rattle.chem_core.specs.Molecule.{ends_of};
 ghost use Rattle.smarts_parse.specs.Pattern.{graph_of};
 ghost use Rattle.smarts_parse.specs.Sound.{pattern_ends};
-ghost use Rattle.matcher.specs.Plan.{step_at};
-ghost use Rattle.matcher.specs.Ring.{AreBound, AreOnRings, IsMarked, IsMarkedWay, IsWay};
+ghost use Rattle.matcher.specs.Plan.{IsReady, step_at};
+ghost use Rattle.matcher.specs.Ring.{AreRingMarks, IsMarked, IsMarkedWay, IsWay};
 ghost use Rattle.matcher.specs.Task.{Completes, Embeds, IsReadyTask};
 
 use crate::class::may_be;
@@ -16,11 +16,19 @@ use crate::task::Task;
 use smarts_parse::{Graph, PatBond};
 use std::alloc::{AllocError, Global};
 
-/// The bonds of a graph that may close rings. Nothing is promised of them.
+/// The bonds of a graph that may close rings, of which nothing is promised, and its bonds on rings.
 #[derive(Debug, Drop)]
 pub struct Closing {
     bonds: Vec<u16>,
     count: usize,
+    // for each bond of the graph whether it is known to lie on a ring of the graph
+    on_ring: Vec<bool>,
+    // `true` for each bond
+    all: Vec<bool>,
+    /// Whether some bond of the graph is known to lie on a ring.
+    pub has_ring: bool,
+    /// Whether some bond is not known to.
+    pub has_open: bool,
     ghost room: { count ≤ vec_len bonds },
 }
 
@@ -30,17 +38,46 @@ impl Closing {
         Ok(Closing {
             bonds: vec![in alloc; 0; MOST_PLACES]?,
             count: 0,
+            on_ring: vec![in alloc; false; MOST_PLACES]?,
+            all: vec![in alloc; true; MOST_PLACES]?,
+            has_ring: false,
+            has_open: true,
         })
     }
 
     /// Finds the bonds of a graph.
-    pub fn find(&mut self, graph: &Graph, steps: &[EarlierBonds]) {
+    pub fn find(&mut self, graph: &Graph, steps: &[EarlierBonds])
+        requires { IsReady (graph_of graph.now) steps.now }
+        ensures { AreRingMarks (graph_of graph.now) self.new.on_ring.items }
+    {
         self.count = find_closing(&graph.bonds, steps, &mut self.bonds);
+        let closing = &self.bonds[..self.count];
+        mark_rings(graph, steps, closing, &mut self.on_ring);
+        self.has_ring = has_mark(graph, &self.on_ring);
+        self.has_open = !has_all(graph, &self.on_ring);
     }
 
-    /// The bonds, by their numbers.
+    /// The bonds that may close rings, by their numbers.
     pub fn bonds(&self) -> &[u16] {
         &self.bonds[..self.count]
+    }
+
+    /// The marks of those bonds that are known to lie on rings, if some are.
+    pub fn rings(&self) -> Option<&[bool]>
+        ensures { IfSome result (λ marks. IsTrue self.now.has_ring × (marks.now ≡ self.now.on_ring.items)) }
+    {
+        if self.has_ring {
+            Some(&self.on_ring)
+        } else {
+            None
+        }
+    }
+
+    /// Marks of all bonds, if some are not known to lie on rings.
+    pub fn all(&self) -> Option<&[bool]>
+        ensures { IfSome result (λ marks. IsTrue self.now.has_open) }
+    {
+        if self.has_open { Some(&self.all) } else { None }
     }
 }
 
@@ -106,7 +143,7 @@ fn lacks_closed(task: &Task, place: usize) -> bool
     if task.steps[high].from == place {
         return false;
     }
-    let Some(links) = way_down(task, high, low) else {
+    let Some(links) = way_down(task.graph, task.steps, high, low) else {
         return false;
     };
     if links < 2 {
@@ -115,56 +152,63 @@ fn lacks_closed(task: &Task, place: usize) -> bool
     !has_ring_atom(task, low, links)
 }
 
-/// Marks bonds of the graph that lie on rings that one of these bonds closes, and no others.
-pub fn mark_rings(task: &Task, closing: &[u16], marks: &mut [bool])
-    requires { IsReadyTask task.now }
-    ensures { AreOnRings task.now marks.new }
+// Marks bonds of the graph that lie on rings that one of these bonds closes, and no others.
+fn mark_rings(graph: &Graph, steps: &[EarlierBonds], closing: &[u16], marks: &mut [bool])
+    requires { IsReady (graph_of graph.now) steps.now }
+    ensures { AreRingMarks (graph_of graph.now) marks.new }
 {
     marks.fill(false);
     for bond in closing {
         let place = usize::from(*bond);
-        if place < task.graph.bonds.len() {
-            mark_closed(task, marks, place);
+        if place < graph.bonds.len() {
+            mark_closed(graph, steps, marks, place);
         }
     }
 }
 
 // Marks the bonds of the ring that a bond closes, if it closes one.
-fn mark_closed(task: &Task, marks: &mut [bool], place: usize)
-    requires ready { IsReadyTask task.now }
-    requires place { place < length task.now.graph.now.bonds.items }
-    requires rings { AreOnRings task.now marks.old }
-    ensures { AreOnRings task.now marks.new }
+fn mark_closed(graph: &Graph, steps: &[EarlierBonds], marks: &mut [bool], place: usize)
+    requires ready { IsReady (graph_of graph.now) steps.now }
+    requires place { place < length graph.now.bonds.items }
+    requires rings { AreRingMarks (graph_of graph.now) marks.old }
+    ensures { AreRingMarks (graph_of graph.now) marks.new }
 {
-    let bond = &task.graph.bonds[place];
+    let bond = &graph.bonds[place];
     let high = usize::from(bond.a.max(bond.b));
     let low = usize::from(bond.a.min(bond.b));
-    if task.steps[high].from == place {
+    if steps[high].from == place {
         return;
     }
-    if mark_way(task, marks, high, low, 0) {
+    if mark_way(graph, steps, marks, high, low, 0) {
         mark(marks, place);
     }
 }
 
 // Marks the first bonds from one place down to a lower one, if they lead there and are two at least, with those above.
-fn mark_way(task: &Task, marks: &mut [bool], from: usize, to: usize, above: usize) -> bool
-    requires ready { IsReadyTask task.now }
-    requires from { from < length task.now.graph.now.atoms.items }
+fn mark_way(
+    graph: &Graph,
+    steps: &[EarlierBonds],
+    marks: &mut [bool],
+    from: usize,
+    to: usize,
+    above: usize,
+) -> bool
+    requires ready { IsReady (graph_of graph.now) steps.now }
+    requires from { from < length graph.now.atoms.items }
     requires above { above + from ≤ 256 }
     ensures kept { result ≡ false → marks.new ≡ marks.old }
-    ensures way { IsTrue result → IsMarkedWay task.now from to above marks.old marks.new }
+    ensures way { IsTrue result → IsMarkedWay (graph_of graph.now) from to above marks.old marks.new }
 {
     if from == to && above >= 2 {
         return true;
     }
-    let Some(next) = place_below(task, from) else {
+    let Some(next) = place_below(graph, steps, from) else {
         return false;
     };
-    if !mark_way(task, marks, next, to, above + 1) {
+    if !mark_way(graph, steps, marks, next, to, above + 1) {
         return false;
     }
-    mark(marks, task.steps[from].from);
+    mark(marks, steps[from].from);
     true
 }
 
@@ -178,36 +222,65 @@ fn mark(marks: &mut [bool], place: usize)
     }
 }
 
+// Whether some bond of the graph is marked.
+fn has_mark(graph: &Graph, marks: &[bool]) -> bool {
+    for index in 0..graph.bonds.len() {
+        if is_marked(marks, index) {
+            return true;
+        }
+    }
+    false
+}
+
+// Whether all are.
+fn has_all(graph: &Graph, marks: &[bool]) -> bool {
+    for index in 0..graph.bonds.len() {
+        if !is_marked(marks, index) {
+            return false;
+        }
+    }
+    true
+}
+
+/// Whether the bond is marked.
+pub fn is_marked(marks: &[bool], index: usize) -> bool
+    ensures { result ≡ slice_index_or marks.now index false }
+{
+    match marks.get(index) {
+        Some(mark) => *mark,
+        None => false,
+    }
+}
+
 // How many bonds a way from one place to a lower one has, along first bonds.
-fn way_down(task: &Task, from: usize, to: usize) -> Option<usize>
-    requires ready { IsReadyTask task.now }
-    requires from { from < length task.now.graph.now.atoms.items }
+fn way_down(graph: &Graph, steps: &[EarlierBonds], from: usize, to: usize) -> Option<usize>
+    requires ready { IsReady (graph_of graph.now) steps.now }
+    requires from { from < length graph.now.atoms.items }
     ensures few { IfSome result (λ links. links ≤ from) }
     ensures way { IfSome result
-        (λ links. (places : List ℕ) × (length places ≡ links) × IsWay task.now from to places) }
+        (λ links. (places : List ℕ) × (length places ≡ links) × IsWay (graph_of graph.now) from to places) }
 {
     if from == to {
         return Some(0);
     }
-    let next = place_below(task, from)?;
-    let links = way_down(task, next, to)?;
+    let next = place_below(graph, steps, from)?;
+    let links = way_down(graph, steps, next, to)?;
     Some(links + 1)
 }
 
 // The place to which the first bond of one leads, if it has one.
-fn place_below(task: &Task, place: usize) -> Option<usize>
-    requires ready { IsReadyTask task.now }
-    requires place { place < length task.now.graph.now.atoms.items }
+fn place_below(graph: &Graph, steps: &[EarlierBonds], place: usize) -> Option<usize>
+    requires ready { IsReady (graph_of graph.now) steps.now }
+    requires place { place < length graph.now.atoms.items }
     ensures lower { IfSome result (λ next. next < place) }
-    ensures bound { IfSome result (λ next. AreBound task.now place next) }
-    ensures joined { IfSome result (λ next. JoinsAt (pattern_ends (graph_of task.now.graph.now))
-        (step_at task.now.steps.now place).from place next) }
+    ensures joined { IfSome result (λ next.
+        JoinsAt (pattern_ends (graph_of graph.now)) (step_at steps.now place).from place next) }
 {
-    let step = task.steps[place];
+    let step = steps[place];
     if step.from >= step.to {
         return None;
     }
-    let bond = &task.graph.bonds[step.from];
+    let bond = &graph.bonds[step.from];
     Some(usize::from(bond.a.min(bond.b)))
 }
 

@@ -1,6 +1,6 @@
 -- The entries of one identifier by their places: the latest one, those that are read, and one taken out.
-use Rattle.std.proofs.Common.{◌≡◌, ◌≢◌, ◌+◌, ◌++◌, ◌-◌, ◌<◌, ◌≤◌, ◌==◌, ◌∙◌, All, ap, arith, Bor, cond, Contains, eq-eqb, false, filter, get_or, inl, inr, IfSome, IsSome, length, List, [], ◌∷◌, MatchOption, nat_le, None, not, option_copied, Option, refl, Some, subst, suc, sym, true, zero, ℕ}
-use Rattle.std.proofs.lemmas.Bool.{cases_lt, ne_eqb, true≢false}
+use Rattle.std.proofs.Common.{◌≡◌, ◌≢◌, ◌+◌, ◌++◌, ◌-◌, ◌<◌, ◌≤◌, ◌==◌, ◌∙◌, All, ap, arith, cond, Contains, eq-eqb, false, filter, get_or, inl, inr, IfSome, length, List, [], ◌∷◌, MatchOption, nat_le, None, not, Option, refl, Some, subst, suc, sym, true, zero, ℕ}
+use Rattle.std.proofs.lemmas.Bool.{cases_lt, ne_eqb}
 use Rattle.std.proofs.lemmas.List.{get_or_default, get_or_push, length_push}
 use Rattle.std.proofs.lemmas.List.Sorted.{IsPartitionedBy-leb}
 use Rattle.std.specs.List.{AllPairs, AllWithin, remove}
@@ -72,18 +72,25 @@ module _ {V : Type 0} where
     ],
   )
 
-  -- what is read at a place
-  pub latest-found : (version place : ℕ) (ks : List (Entry V)) (o : Option (Bor (Entry V))) → 0 < place
-      → place ≤ length ks → Ascends ks → AllWithin (λ k. k.version ≤ version) ks 0 place
-      → AllWithin (λ k. version < k.version) ks place (length ks) → (place - 1 < length ks → IsSome o)
-      → IfSome o (λ k. k.now ≡ get_or ks (place - 1) k.now) → IsLatest version ks (option_copied o)
-  latest-found version place ks None some within up before behind there is =
-      absurd (true≢false (sym (there (omega (arith, some, within)))))
-  latest-found version place ks (Some b) some within up before behind there is =
+  -- the last one, where it is not after a version
+  pub latest-last : (version : ℕ) (ks : List (Entry V)) (last : Entry V) → Ascends (ks ++ last ∷ [])
+      → last.version ≤ version → IsLatest version (ks ++ last ∷ []) (Some last)
+  latest-last version ks last up late =
+      let long = length_push ks last in
+      subst (λ k. IsLatest version (ks ++ last ∷ []) (Some k)) (get_or_push ks last last (length ks) refl)
+      (latest-index version (length ks) (ks ++ last ∷ []) last (omega (arith, long)) up
+      (up-to-last version ks last up late)
+      (λ i d low high. absurd (omega (arith, long, low, high))))
+
+  -- the one in front of a place, where those in front of it are up to a version, and the others are not
+  pub latest-before : (version i place : ℕ) (ks : List (Entry V)) (x : Entry V) → place ≡ i + 1 → place ≤ length ks
+      → Ascends ks → AllWithin (λ k. k.version ≤ version) ks 0 place
+      → AllWithin (λ k. version < k.version) ks place (length ks) → x ≡ get_or ks i x → IsLatest version ks (Some x)
+  latest-before version i place ks x next within up before behind is =
       subst (λ k. IsLatest version ks (Some k)) (sym is)
-      (latest-index version (place - 1) ks b.now (omega (arith, some, within)) up
-      (λ i d low high. before i d low (omega (arith, high, some)))
-      (λ i d low high. behind i d (omega (arith, low, some)) high))
+      (latest-index version i ks x (omega (arith, next, within)) up
+      (λ j d low high. before j d low (omega (arith, high, next)))
+      (λ j d low high. behind j d (omega (arith, low, next)) high))
 
   -- what comes after an entry: no version, or that of the next place
   abbrev pub IsNextAt : List (Entry V) → ℕ → Option ℕ → Type 0

@@ -59,8 +59,7 @@ impl<V: Drop> Chain<V> {
         ensures latest { IsLatest version self.now.entries (option_copied result) }
         ensures ascending { AllPairs (λ k l. k.version < l.version) self.now.entries }
     {
-        let place = self.entries.up_to(version);
-        self.entries.get(place.checked_sub(1)?)
+        self.entries.latest(version)
     }
 
     /// Takes the entry of a version out, where there is one.
@@ -95,7 +94,7 @@ impl<V: Drop> Chain<V> {
 }
 
 // How many entries are before a version.
-fn before<V>(entries: &Entries<V>, version: u32) -> usize
+fn before<V: Drop>(entries: &Entries<V>, version: u32) -> usize
     requires { AllPairs (λ k l. k.version < l.version) entries.now.entries }
     ensures within { result ≤ length entries.now.entries }
     ensures before { AllWithin (λ k. k.version < version) entries.now.entries 0 result }
@@ -109,7 +108,7 @@ fn before<V>(entries: &Entries<V>, version: u32) -> usize
 }
 
 // The version of the entry at a place, where there is one.
-fn version_at<V>(entries: &Entries<V>, place: usize) -> Option<u32>
+fn version_at<V: Drop>(entries: &Entries<V>, place: usize) -> Option<u32>
     ensures { MatchOption result (length entries.now.entries ≤ place)
         (λ v. (place < length entries.now.entries)
         × ((d : Entry V) → v ≡ (slice_index_or entries.now.entries place d).version)) }

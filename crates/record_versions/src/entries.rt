@@ -1,11 +1,12 @@
-//! Entries in order, the newest of which lies apart, so that one alone takes no block of memory. The older ones lie in
-//! a ring, so that the oldest leave without moving the others.
-ghost use Rattle.std.specs.Prelude.{◌≡◌, ◌+◌, ◌++◌, ◌<◌, ◌≤◌, ◌↔◌, [], ◌∷◌, IfSome, IsSome, IfNone, OnOk, OnSome, length, slice_index_or};
+//! Entries in order. One alone takes no block of memory: a ring, behind a pointer, is taken where a second one comes.
+ghost use Rattle.std.specs.Prelude.{◌≡◌, ◌+◌, ◌++◌, ◌<◌, ◌≤◌, ◌↔◌, [], ◌∷◌, IfSome, IsSome, IfNone, OnOk, OnSome, length, option_copied, slice_index_or};
 ghost use Rattle.std.specs.List.{AllPairs, AllWithin, remove};
+ghost use Rattle.record_versions.specs.Entries.{IsLatest};
 
+use crate::ring::Ring;
 use std::alloc::{AllocError, Global};
-use std::collections::VecDeque;
 use std::marker::Model;
+use std::mem;
 use std::ops::Index;
 
 /// A value with the version that made it.
@@ -18,33 +19,36 @@ pub struct Entry<V> {
 /// Contracts see the entries, and for how many there is room.
 #[derive(Drop)]
 pub(crate) struct Entries<V> {
-    older: VecDeque<Entry<V>>,
-    // `None` where there is none, or where the newest was taken out
-    newest: Option<Entry<V>>,
+    alloc: Global,
+    form: Form<V>,
+}
+
+// How entries lie.
+#[derive(Drop)]
+enum Form<V> {
+    Empty,
+    One(Entry<V>),
+    // any number of them: those that are taken out leave the ring behind
+    More(Box<Ring<V>>),
 }
 
 impl<V> Model for Entries<V> {
-    ghost use Rattle.std.specs.Prelude.{◌+◌, ◌++◌};
+    ghost use Rattle.record_versions.specs.Forms.{row_in};
     ghost use Rattle.record_versions.specs.Rows.{Row};
-    ghost use Rattle.std.specs.Option.{option_to_list};
-    ghost use Rattle.std.specs.VecDeque.{deque_capacity};
 
     ghost Value = { Row V };
 
-    ghost view = { λ e. record {
-      entries = e.older.items ++ option_to_list e.newest;
-      room = deque_capacity e.older + 1;
-    } };
+    ghost view = { λ e. row_in e.form };
 }
 
-impl<V> Entries<V> {
+impl<V: Drop> Entries<V> {
     /// Without entries. It takes no memory.
     pub(crate) fn new(alloc: Global) -> Entries<V>
         ensures { result.entries ≡ [] }
     {
         Entries {
-            older: VecDeque::new(alloc),
-            newest: None,
+            alloc,
+            form: Form::Empty,
         }
     }
 
@@ -52,9 +56,10 @@ impl<V> Entries<V> {
     pub(crate) fn len(&self) -> usize
         ensures { result ≡ length self.now.entries }
     {
-        match self.newest {
-            Some(_) => self.older.len() + 1,
-            None => self.older.len(),
+        match &self.form {
+            Form::Empty => 0,
+            Form::One(_) => 1,
+            Form::More(ring) => ring.len(),
         }
     }
 
@@ -76,10 +81,18 @@ impl<V> Entries<V> {
         ensures grows { self.old.room ≤ self.new.room }
         ensures room { OnOk result (length self.new.entries < self.new.room) }
     {
-        if self.newest.is_none() {
-            return Ok(());
+        match &mut self.form {
+            Form::Empty => Ok(()),
+            Form::One(_) => {
+                let mut ring = Box::new(self.alloc, Ring::of_two(self.alloc)?)?;
+                if let Form::One(entry) = mem::replace(&mut self.form, Form::Empty) {
+                    ring.push_reserved(entry);
+                }
+                self.form = Form::More(ring);
+                Ok(())
+            }
+            Form::More(ring) => ring.reserve_one(),
         }
-        self.older.reserve(1)
     }
 
     /// One entry more, the newest.
@@ -88,8 +101,9 @@ impl<V> Entries<V> {
         ensures entries { self.new.entries ≡ self.old.entries ++ entry ∷ [] }
         ensures room { self.new.room ≡ self.old.room }
     {
-        if let Some(older) = self.newest.replace(entry) {
-            self.older.push_back_reserved(older);
+        match &mut self.form {
+            Form::More(ring) => ring.push_reserved(entry),
+            _ => self.form = Form::One(entry),
         }
     }
 
@@ -101,10 +115,16 @@ impl<V> Entries<V> {
         ensures unchanged { IfNone result (self.new ≡ self.old) }
         ensures room { self.new.room ≡ self.old.room }
     {
-        if place == self.older.len() {
-            return self.newest.take();
+        if let Form::More(ring) = &mut self.form {
+            return ring.remove(place);
         }
-        self.older.remove(place)
+        if place > 0 {
+            return None;
+        }
+        match mem::replace(&mut self.form, Form::Empty) {
+            Form::One(entry) => Some(entry),
+            _ => None,
+        }
     }
 
     /// How many entries are not after a version. The newest is asked first.
@@ -115,9 +135,22 @@ impl<V> Entries<V> {
         ensures behind { AllWithin (λ k. version < k.version) self.now.entries result
             (length self.now.entries) }
     {
-        match &self.newest {
-            Some(newest) if newest.version <= version => self.older.len() + 1,
-            _ => older_up_to(&self.older, version),
+        match &self.form {
+            Form::One(entry) if entry.version <= version => 1,
+            Form::More(ring) => ring.up_to(version),
+            _ => 0,
+        }
+    }
+
+    /// The latest entry that is not after a version. The newest is asked first.
+    pub(crate) fn latest(&self, version: u32) -> Option<&Entry<V>>
+        requires { AllPairs (λ k l. k.version < l.version) self.now.entries }
+        ensures { IsLatest version self.now.entries (option_copied result) }
+    {
+        match &self.form {
+            Form::One(entry) if entry.version <= version => Some(entry),
+            Form::More(ring) => ring.latest(version),
+            _ => None,
         }
     }
 }
@@ -135,20 +168,10 @@ impl<V> Index<usize> for Entries<V> {
         requires { place < length self.now.entries }
         ensures { result.now ≡ slice_index_or self.now.entries place result.now }
     {
-        match &self.newest {
-            Some(newest) if place == self.older.len() => newest,
-            _ => &self.older[place],
+        match &self.form {
+            Form::Empty => unreachable!(),
+            Form::One(entry) => entry,
+            Form::More(ring) => &ring[place],
         }
     }
-}
-
-// How many of the older entries are not after a version.
-fn older_up_to<V>(older: &VecDeque<Entry<V>>, version: u32) -> usize
-    requires { AllPairs (λ k l. k.version < l.version) older.now.items }
-    ensures within { result ≤ length older.now.items }
-    ensures before { AllWithin (λ k. k.version ≤ version) older.now.items 0 result }
-    ensures behind { AllWithin (λ k. version < k.version) older.now.items result
-        (length older.now.items) }
-{
-    older.partition_point(|entry| entry.version <= version)
 }

@@ -8,6 +8,7 @@ mod chain;
 mod chains;
 mod entries;
 mod finder;
+mod ring;
 mod steps;
 
 pub use chains::Chains;

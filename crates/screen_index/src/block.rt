@@ -6,6 +6,7 @@ ghost use Rattle.screen_index.specs.Pairs.{Ascend, IsNext, Lacks, Rises, ends_be
 
 use crate::entry::Screened;
 use crate::union::union_of;
+use crate::want::Want;
 use chem_core::Print;
 use std::alloc::{AllocError, Global};
 use std::marker::Model;
@@ -158,19 +159,18 @@ impl Block {
 
     /// The least pair from a place on whose print holds what is wanted. Where nothing is wanted no print is read. The hint
     /// is the index at which the pairs from the place on may begin, and then the one behind the answer.
-    pub fn next(&self, want: &Print, from: (u32, u32), hint: &mut usize) -> Option<(u32, u32)>
+    pub fn next(&self, want: &Want<'_>, from: (u32, u32), hint: &mut usize) -> Option<(u32, u32)>
         requires { Ascend 0 self.now }
         ensures { IsNext want.now (rank from.0 from.1) self.now result }
     {
-        let is_any = Print::empty().holds(want);
         let start = self.count_near(from, *hint);
         // The union is asked once, where a search enters the block.
-        if start == 0 && !is_any && !self.union.holds(want) {
+        if start == 0 && !want.is_met_by(&self.union) {
             return None;
         }
         for place in start..self.entries.len() {
             let entry = &self.entries[place];
-            if is_any || entry.print.holds(want) {
+            if want.is_met_by(&entry.print) {
                 *hint = place + 1;
                 return Some((entry.id, entry.version));
             }

@@ -6,6 +6,7 @@ ghost use Rattle.screen_index.specs.Pairs.{AreBlocks, Ascend, IsNext, Lacks, Ris
 use crate::block::{Block, ROOM};
 use crate::entry::Screened;
 use crate::hint::Hint;
+use crate::want::Want;
 use chem_core::Print;
 use std::alloc::{AllocError, Global};
 use std::marker::Model;
@@ -86,7 +87,7 @@ impl ScreenIndex {
 
     /// The least pair from a place on whose print holds what is wanted. `None` exactly where there is none. The answer
     /// is the same whatever the hint says; then the hint is for the pairs behind the answer. It takes no memory.
-    pub fn next(&self, want: &Print, from: (u32, u32), hint: &mut Hint) -> Option<(u32, u32)>
+    pub fn next(&self, want: &Want<'_>, from: (u32, u32), hint: &mut Hint) -> Option<(u32, u32)>
         ensures next { IsNext want.now (rank from.0 from.1) self.now.entries result }
         ensures ascending { Ascend 0 self.now.entries }
     {

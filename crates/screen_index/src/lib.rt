@@ -11,9 +11,11 @@ mod entry;
 mod hint;
 mod index;
 mod union;
+mod want;
 
 pub use hint::Hint;
 pub use index::ScreenIndex;
+pub use want::Want;
 
 #[cfg(test)]
 mod tests;

@@ -2,7 +2,7 @@
 ghost use Rattle.std.specs.Prelude.{◌≡◌, OnOk};
 ghost use Rattle.screen_index.specs.Pairs.{Lacks, put_in, rank};
 
-use crate::{Hint, ScreenIndex};
+use crate::{Hint, ScreenIndex, Want};
 use chem_core::Print;
 use std::alloc::{AllocError, Global};
 use std::test::Fail;
@@ -63,7 +63,8 @@ fn three_pairs(alloc: Global) -> Result<ScreenIndex, AllocError> {
 
 fn next_of(index: &ScreenIndex, row: &Row, hint: &mut Hint) -> Option<(u32, u32)> {
     let (bits, from, _) = *row;
-    index.next(&print_of(bits.0, bits.1), from, hint)
+    let print = print_of(bits.0, bits.1);
+    index.next(&Want::of(&print), from, hint)
 }
 
 // What is found by the last hint and by each of the hints: another answer than that of the row, if one of them is.

@@ -30,7 +30,9 @@ use Rattle.disk_pair.specs.contracts.other.Other.{the_row as other_row}
 use Rattle.disk_pair.specs.contracts.pair.Pair.{the_row as pair_row}
 use Rattle.compact_core.specs.contracts.carry.Carry.{the_row as carry_row}
 use Rattle.journal_core.specs.contracts.journal.Journal.{the_row as journal_row}
+use Rattle.record_versions.specs.contracts.chain.Chain.{the_row as chain_row}
 use Rattle.record_versions.specs.contracts.chains.Chains.{the_row as chains_row}
+use Rattle.record_versions.specs.contracts.ring.Ring.{the_row as ring_row}
 use Rattle.screen_index.specs.contracts.index.ScreenIndex.{the_row as index_row}
 use Rattle.store_core.specs.contracts.kept.KeptEntries.{the_row as entries_row}
 use Rattle.store_core.specs.contracts.record.Record.{the_row as record_row}
@@ -56,8 +58,14 @@ record-sync = search (sendable, crosses) depth 40 fits 20000
 index-send : IsSend index_row
 index-send = search (sendable, crosses) depth 40
 
+ring-send : (V : RattleType) → IsSend V → IsSend (ring_row V)
+ring-send V v = search (sendable, crosses) depth 40 fits 20000
+
+chain-send : (V : RattleType) → IsSend V → IsSend (chain_row V)
+chain-send V v = let r = ring-send V v in search (sendable, crosses) depth 40 fits 20000
+
 chains-send : (V : RattleType) → IsSend V → IsSend (chains_row V)
-chains-send V v = search (sendable, crosses, maps_cross) depth 40
+chains-send V v = let c = chain-send V v in search (sendable, crosses, maps_cross) depth 40
 
 entries-send : IsSend entries_row
 entries-send =

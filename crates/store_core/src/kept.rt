@@ -11,7 +11,7 @@ use crate::record::Record;
 use arrayvec::ArrayVec;
 use chem_core::Print;
 use record_versions::{Chains, Finder, Steps};
-use screen_index::{Hint, ScreenIndex};
+use screen_index::{Hint, ScreenIndex, Want};
 use std::alloc::{AllocError, Global};
 use std::marker::{Brand, Model};
 use std::sync::Arc;
@@ -112,7 +112,7 @@ impl KeptEntries {
 
     /// The least identifier from `from` on that has an entry whose print holds what is wanted, whatever the hint says,
     /// and a version: the identifier's record of this version, if there is one, has such a print.
-    pub fn next(&self, want: &Print, from: u32, hint: &mut Hint) -> Option<(u32, u32)>
+    pub fn next(&self, want: &Want<'_>, from: u32, hint: &mut Hint) -> Option<(u32, u32)>
         ensures id { IsNextId want.now from self.now.chains (option_map (λ p. p.0) result) }
         ensures version { IfSome result
             (λ p. All (HoldsAt want.now p.1) (chain_of self.now.chains p.0)) }

@@ -34,7 +34,7 @@ use arrayvec::ArrayVec;
 use chem_core::Print;
 use mol_finish::one_structure;
 use record_versions::Steps;
-use screen_index::Hint;
+use screen_index::{Hint, Want};
 use snap_registry::{Pin, Registry};
 use std::alloc::{AllocError, Global};
 use std::marker::Model;
@@ -280,11 +280,12 @@ impl Store {
     {
         laws();
         one_structure();
+        let wanted = Want::of(want);
         let mut place = from;
         let mut hint = Hint::default();
         let mut finder = self.kept.finder(from);
         let mut waiting = Waiting::new();
-        while let Some((id, version)) = self.kept.next(want, place, &mut hint) {
+        while let Some((id, version)) = self.kept.next(&wanted, place, &mut hint) {
             let found = look(&mut finder, id, pin.version, steps);
             if let Some(record) = screened(found, version, want) {
                 if page.records().len() + waiting.len() >= limit as usize {

@@ -4,26 +4,49 @@ use Rattle.std.proofs.lemmas.Bool.{cases_Bool, false≢true}
 use Rattle.std.proofs.lemmas.List.{length-map}
 use Rattle.smarts_parse.specs.Pattern.{graph_of, pattern_of}
 use Rattle.matcher.specs.Parts.{AreNoted}
-use Rattle.matcher.proofs.OnlyParts.{only_part_holds}
+use Rattle.matcher.specs.Prepared.{ArePartMarks, IsOnlyPart}
+use Rattle.matcher.proofs.OnlyParts.{only_part_holds, part_read}
 use Rattle.matcher.proofs.PartsHeld.{none_of, some_of}
-use Rattle.matcher.proofs.Places.{get_map}
 use Rattle.matcher.proofs.answer.matches.Goals as goal
 
-pub exists-requires : goal.exists-requires
-exists-requires c = c.part-steps.ensures (graph_of c.index.result.now)
-    (get_map graph_of c.args.pattern.now.recs.items c.in-Some.part c.index.result.now (let last = c.in-Some.ensures.0
-    in omega arith) c.index.ensures)
+pub note_parts-requires-clause-count : goal.note_parts-requires-clause-count
+note_parts-requires-clause-count c =
+    let only : IsOnlyPart (pattern_of c.args.pattern.now) c.in-Some.part = rw c.in-Some.is at
+    c.requires.prepared.only in
+    let last = only.0 in
+    omega (arith, length-map c.args.pattern.now.recs.items graph_of)
+
+pub part-steps-requires-clause-part : goal.part-steps-requires-clause-part
+part-steps-requires-clause-part c =
+    let only : IsOnlyPart (pattern_of c.args.pattern.now) c.in-Some.part = rw c.in-Some.is at
+    c.requires.prepared.only in
+    let last = only.0 in
+    omega (arith, length-map c.args.pattern.now.recs.items graph_of)
+
+pub exists-requires-clause-ready : goal.exists-requires-clause-ready
+exists-requires-clause-ready c =
+    let only : IsOnlyPart (pattern_of c.args.pattern.now) c.in-Some.part = rw c.in-Some.is at
+    c.requires.prepared.only in
+    c.part-steps.ensures (graph_of c.index.result.now)
+    (part_read c.args.pattern.now c.in-Some.part c.index.result.now only c.index.ensures)
+
+pub exists-requires-clause-marks : goal.exists-requires-clause-marks
+exists-requires-clause-marks c =
+    let p = pattern_of c.args.pattern.now in
+    let only : IsOnlyPart p c.in-Some.part = rw c.in-Some.is at c.requires.prepared.only in
+    let marks : ArePartMarks p c.args.prepared.now.closing.on_ring.items c.in-Some.part = rw c.in-Some.is at
+    c.requires.prepared.part_marks in
+    marks (graph_of c.index.result.now)
+    (part_read c.args.pattern.now c.in-Some.part c.index.result.now only c.index.ensures)
 
 pub returns-in-Some : goal.returns-in-Some
 returns-in-Some c =
     let p = pattern_of c.args.pattern.now in
-    let recs = c.args.pattern.now.recs.items in
     let g = graph_of c.index.result.now in
+    let only : IsOnlyPart p c.in-Some.part = rw c.in-Some.is at c.requires.prepared.only in
     let both = only_part_holds p c.args.mol.now c.args.prepared.now.wanted.classes.items c.in-Some.part g
-    c.note_parts.new.memory.table c.requires.sound c.requires.prepared.wanted
-    (c.in-Some.ensures.0 ∙ sym (length-map recs graph_of)) c.in-Some.ensures.1
-    (get_map graph_of recs c.in-Some.part c.index.result.now (let last = c.in-Some.ensures.0
-    in omega arith) c.index.ensures) c.note_parts.ensures in
+    c.note_parts.new.memory.table c.requires.sound c.requires.prepared.wanted only.0 only.1
+    (part_read c.args.pattern.now c.in-Some.part c.index.result.now only c.index.ensures) c.note_parts.ensures in
     (λ t. both.0 (c.exists.ensures.0 t), λ w. c.exists.ensures.1 (both.1 w))
 
 pub returns-in-None : goal.returns-in-None

@@ -1,19 +1,13 @@
-use Rattle.std.proofs.Common.{◌-◌, arith}
+use Rattle.std.proofs.Common.{refl}
 use Rattle.smarts_mean.specs.Table.{HoldsIn}
 use Rattle.smarts_parse.specs.declared.pattern.AtomPrim.TheVariants as atoms
-use Rattle.matcher.proofs.Truths.{all_seen, one_seen, prim_seen}
+use Rattle.matcher.proofs.Truths.{all_seen, first_seen, symbol_found}
 use Rattle.matcher.proofs.candidates.symbol_truth.Goals as goal
 
-pub loop-bit-preserved : goal.loop-bit-preserved
-loop-bit-preserved c t =
+pub returns-then-block-eq0 : goal.returns-then-block-eq0
+returns-then-block-eq0 c t =
     let m = c.args.mol.now in
     let prim = (atoms.Symbol c.args.number c.args.lower) in
-    let place = c.loop-bit.bit - 1 in
-    one_seen (HoldsIn t) m prim c.args.block place c.loop-bit.bit c.loop-bit.word c.with_lowest-word.result
-    c.has_symbol.result (omega arith) c.with_lowest-word.ensures.lowest c.with_lowest-word.ensures.others
-    (prim_seen (HoldsIn t) m prim c.args.block place c.block_atoms-atoms.result.now c.has_symbol.result (omega arith)
-    c.block_atoms-atoms.ensures.atoms c.has_symbol.ensures) (c.loop-bit.invariant t)
-
-pub returns : goal.returns
-returns c t = all_seen (HoldsIn t) c.args.mol.now (atoms.Symbol c.args.number c.args.lower) c.args.block c.args.within
-    c.loop-bit.bit c.loop-bit.word (omega arith) (c.loop-bit.invariant t)
+    all_seen (HoldsIn t) m prim c.args.block c.args.within 0 c.symbol_word.result refl
+    (first_seen (HoldsIn t) m prim c.args.block c.symbol_word.result c.if-block-eq0.true
+    (λ i l. symbol_found (HoldsIn t) m c.args.number c.args.lower c.symbol_word.result i (c.symbol_word.ensures i l)))

@@ -1,17 +1,22 @@
-use Rattle.std.proofs.Common.{◌≡◌, ◌-◌, Some, arith, slice_get, subst, sym}
-use Rattle.smarts_parse.specs.Pattern.{graph_of, term_of}
-use Rattle.matcher.proofs.Places.{get_map}
+use Rattle.std.proofs.Common.{◌≡◌, ◌-◌, ◌<◌, ◌∙◌, Some, ap, arith, get_or, length, slice_get, subst, sym}
+use Rattle.std.proofs.lemmas.List.{length-map}
+use Rattle.std.proofs.lemmas.Option.{slice_get-get_or}
+use Rattle.smarts_parse.specs.declared.pattern.AtomPrim.{AtomPrim}
+use Rattle.smarts_parse.specs.declared.pattern.AtomPrim.TheVariants as atoms
+use Rattle.smarts_parse.specs.Pattern.{Prim, Term, graph_of, term_of}
 use Rattle.matcher.proofs.Truths.{truth_same}
 use Rattle.matcher.proofs.candidates.word_at.Goals as goal
 
-pub returns : goal.returns
-returns c =
+pub returns-then-step : goal.returns-then-step
+returns-then-step c =
     let task = c.args.task.now in
-    let items = task.graph.now.atoms.items in
+    let exprs = (graph_of task.graph.now).atoms in
     let place = c.args.place in
-    let inside = c.requires.place in
-    truth_same task c.args.block (place - 1) place _ (term_of c.index-before.result.now)
-    (get_map term_of items (place - 1) c.index-before.result.now (omega arith) c.index-before.ensures)
-    (subst (λ t. slice_get (graph_of task.graph.now).atoms place ≡ Some t) (sym (c.is_same.ensures c.if-not-is_same.false))
-    (get_map term_of items place c.index-expr.result.now c.requires.place c.index-expr.ensures))
-    (c.requires.before (place - 1) (omega arith))
+    let any : Term AtomPrim = Prim atoms.Any in
+    let inside : place < length exprs = subst (λ n. place < n) (sym (length-map task.graph.now.atoms.items term_of))
+    c.requires.place in
+    let repeat = c.requires.ready.repeats place inside c.if-step.true in
+    let some : 0 < place = repeat.0 in
+    truth_same task c.args.block (place - 1) place _ (get_or exprs place any)
+    (slice_get-get_or exprs (place - 1) any (omega arith) ∙ ap Some (repeat.1 any))
+    (slice_get-get_or exprs place any inside) (c.requires.before (place - 1) (omega arith))

@@ -29,7 +29,7 @@ loop-place-preserved c =
     }
 
 pub returns-then-words-place-eq0-clause-refused : goal.returns-then-words-place-eq0-clause-refused
-returns-then-words-place-eq0-clause-refused c = λ _.
+returns-then-words-place-eq0-clause-refused c =
     let few = c.requires.ready.searchable.few in
     none_left c.args.task.now _ c.loop-place.place
     (narrowed c.args.task.now c.args.near.now c.loop-place.words c.loop-place.place c.narrow_word-last.result.kept _

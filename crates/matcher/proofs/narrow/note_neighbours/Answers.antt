@@ -1,4 +1,4 @@
-use Rattle.std.proofs.Common.{◌≡◌, ap, arith, below_more, get_or, length, slice_index, subst}
+use Rattle.std.proofs.Common.{◌≡◌, ap, arith, below_more, get_or, length, refl, slice_index, subst}
 use Rattle.std.specs.Int.{bit_at}
 use Rattle.matcher.proofs.Narrowings.{ends_among, near_all}
 use Rattle.matcher.proofs.Refusals.{no_bond}
@@ -34,10 +34,10 @@ loop-bond-preserved c = below_more _ _
       c.join-in-loop-bond.ensures.kept _ _ (c.join.ensures.kept _ _ old.0),
       c.join-in-loop-bond.ensures.kept _ _ (c.join.ensures.kept _ _ old.1),
     ))
-    (c.join-in-loop-bond.ensures.kept _ _ c.join.ensures.here, c.join-in-loop-bond.ensures.here)
+    (c.join-in-loop-bond.ensures.kept _ _ (c.join.ensures.here refl), c.join-in-loop-bond.ensures.here refl)
 
 pub returns : goal.returns
-returns c =
+returns c = λ _.
     let near = c.loop-bond.near in
     near_all c.args.mol.now near c.bonds-bonds.ensures.valid
     (λ k l. subst (λ bs. (bit_at (slice_index near (get_or bs k no_bond).a) (get_or bs k no_bond).b ≡ 1)

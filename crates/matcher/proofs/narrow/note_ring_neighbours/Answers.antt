@@ -1,6 +1,5 @@
-use Rattle.std.proofs.Common.{◌≡◌, ap, arith, below_more, get_or, length, slice_index, subst}
-use Rattle.std.specs.Int.{bit_at}
-use Rattle.std.proofs.lemmas.Bool.{iff_false}
+use Rattle.std.proofs.Common.{◌≡◌, ◌∙◌, ap, arith, below_more, get_or, length, slice_index, subst}
+use Rattle.std.specs.Int.{bit_at, from_bool}
 use Rattle.matcher.proofs.Narrowings.{ends_among, ring_near_all}
 use Rattle.matcher.proofs.Refusals.{no_bond}
 use Rattle.matcher.proofs.narrow.note_ring_neighbours.Goals as goal
@@ -29,10 +28,6 @@ join-requires-in-loop-place-clause-other c =
     c.bonds-bonds.ensures.valid (omega (arith, c.from.ensures, c.loop-place-test.true))).0 in
     omega arith
 
-pub loop-place-preserved-then-not-ring_bond : goal.loop-place-preserved-then-not-ring_bond
-loop-place-preserved-then-not-ring_bond c = below_more _ _ c.loop-place.invariant
-    (λ ring. absurd (iff_false c.ring_bond.ensures c.if-not-ring_bond.true ring))
-
 pub loop-place-preserved : goal.loop-place-preserved
 loop-place-preserved c =
     let new = c.join-in-loop-place.new.near in
@@ -42,12 +37,13 @@ loop-place-preserved c =
       c.join-in-loop-place.ensures.kept _ _ (c.join.ensures.kept _ _ old.0),
       c.join-in-loop-place.ensures.kept _ _ (c.join.ensures.kept _ _ old.1),
     ))
-    (λ ring. subst (λ i. (bit_at (slice_index new (get_or bonds i no_bond).a) (get_or bonds i no_bond).b ≡ 1)
+    (λ ring. let one = c.from-ring.ensures ∙ ap from_bool (c.ring_bond.ensures.1 ring) in
+    subst (λ i. (bit_at (slice_index new (get_or bonds i no_bond).a) (get_or bonds i no_bond).b ≡ 1)
     × (bit_at (slice_index new (get_or bonds i no_bond).b) (get_or bonds i no_bond).a ≡ 1)) c.from.ensures
-    (c.join-in-loop-place.ensures.kept _ _ c.join.ensures.here, c.join-in-loop-place.ensures.here))
+    (c.join-in-loop-place.ensures.kept _ _ (c.join.ensures.here one), c.join-in-loop-place.ensures.here one))
 
 pub returns : goal.returns
-returns c =
+returns c = λ _.
     let near = c.loop-place.near in
     ring_near_all c.args.mol.now near c.bonds-bonds.ensures.valid
     (λ k l ring. subst (λ bs. (bit_at (slice_index near (get_or bs k no_bond).a) (get_or bs k no_bond).b ≡ 1)

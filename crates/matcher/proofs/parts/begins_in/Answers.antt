@@ -4,9 +4,9 @@ use Rattle.std.specs.Int.{bit_at, trailing_zeros}
 use Rattle.std.proofs.lemmas.Bool.{iff_false}
 use Rattle.std.proofs.lemmas.List.{length-map}
 use Rattle.std.proofs.lemmas.Option.{same_Some, slice_get-get_or}
+use Rattle.chem_core.specs.Symbols.{class_of}
 use Rattle.smarts_mean.specs.Table.{HoldsIn}
 use Rattle.smarts_parse.specs.Pattern.{graph_of, term_of}
-use Rattle.matcher.specs.Class.{class_of}
 use Rattle.matcher.proofs.Beginnings.{all_begin, asked_all, asked_held, asked_near, asked_out, asked_whole, next_first, one_begins}
 use Rattle.matcher.proofs.Classes.{no_element}
 use Rattle.matcher.proofs.parts.begins_in.Goals as goal

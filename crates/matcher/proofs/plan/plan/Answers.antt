@@ -4,7 +4,7 @@ use Rattle.std.proofs.lemmas.List.{get_or-map, length-set}
 use Rattle.smarts_parse.specs.Pattern.{graph_of, term_of}
 use Rattle.matcher.specs.declared.plan.EarlierBonds.{EarlierBonds}
 use Rattle.matcher.specs.Class.{Covers}
-use Rattle.matcher.proofs.Plans.{covered_more, covered_set, high_below, none_more, planned_next}
+use Rattle.matcher.proofs.Plans.{covered_more, covered_set, high_below, none_more, planned_next, repeats_more, repeats_set}
 use Rattle.matcher.proofs.plan.plan.Goals as goal
 
 -- the higher end is an atom
@@ -47,6 +47,8 @@ loop-place-preserved c =
           (subst (λ k. k < length g.atoms) (sym top) below) c.with.ensures.fresh c.with.ensures.again c.with.ensures.to;
       covered = covered_set g.atoms (length g.atoms) c.loop-place.steps c.from-high.result c.with.result
           c.loop-place.invariant.covered (omega arith) c.with.ensures.classes;
+      repeats = repeats_set g.atoms (length g.atoms) c.loop-place.steps c.from-high.result c.with.result
+          c.loop-place.invariant.repeats (omega arith) c.with.ensures.repeat;
     }
 
 pub loop-atom-preserved : goal.loop-atom-preserved
@@ -54,7 +56,7 @@ loop-atom-preserved c =
     let i = c.loop-atom.atom in
     let exprs = c.args.graph.now.atoms.items in
     let steps = c.loop-atom.steps in
-    let next : EarlierBonds = record { from = 0; to = 0; classes = c.classes_of.result } in
+    let next : EarlierBonds = record { from = 0; to = 0; classes = c.classes_of.result; again = c.is_repeat.result } in
     let within : i < length exprs = omega (arith, c.loop-atom-test.true, c.len-atom-end.ensures) in
     let room = c.loop-atom.invariant.room in
     let lt : i < length steps = omega arith in
@@ -65,4 +67,5 @@ loop-atom-preserved c =
           (λ d. subst (λ e. Covers next.classes e)
           (sym (get_or-map term_of exprs i c.index.result.now d within ∙ ap term_of (sym c.index.ensures)))
           c.classes_of.ensures);
+      repeats = repeats_more (map term_of exprs) i steps next c.loop-atom.invariant.repeats lt c.is_repeat.ensures;
     }

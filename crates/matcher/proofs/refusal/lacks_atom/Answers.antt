@@ -10,6 +10,6 @@ returns-then-step-present-eq0 c = λ _ w.
     let p = pattern_of c.args.pattern.now in
     let atoms = c.args.pattern.now.top.atoms in
     no_atom (PartsHold p.recs c.args.mol.now (length p.recs)) p.top c.args.mol.now c.args.steps.now c.len.result
-    c.loop-step.step-index c.classes_in-present.result c.requires
+    c.loop-step.step-index c.classes-present.result c.requires
     (omega (arith, length-map atoms.items term_of, atoms.ok.0)) c.loop-step-test.true
-    (rw c.atoms.ensures.value at c.classes_in-present.ensures) c.if-step-present-eq0.true w.0 w.1
+    (λ k l h. (c.classes-present.ensures k l).1 h) c.if-step-present-eq0.true w.0 w.1

@@ -47,7 +47,8 @@ pub returns-in_err-share-clause-steps : goal.returns-in_err-share-clause-steps
 returns-in_err-share-clause-steps g c =
     let law = c.laws.ensures in
     let next = subst (λ (t : StoreTerm). IsNextId c.args.want.now c.loop-id.place t.kept.chains (Some c.in-Some.id))
-    c.self.view_is c.in-Some.ensures.id in
+    c.self.view_is (subst (λ w. IsNextId w c.loop-id.place c.self.inside.kept.chains (Some c.in-Some.id))
+    c.of-wanted.ensures c.in-Some.ensures.id) in
     λ s h. (step-more law.read law.states c.one_structure.ensures c.args.self.now c.args.pin.now c.requires.held
     c.args.want.now c.args.from c.loop-id.place c.in-Some.id c.args.steps.now c.loop-id.steps c.look-found.new.steps
     c.loop-id.invariant.later next c.look-found.ensures.steps c.loop-id.invariant.taken s h).steps
@@ -66,7 +67,8 @@ pub returns-then-records-len-clause-steps : goal.returns-then-records-len-clause
 returns-then-records-len-clause-steps g c =
     let law = c.laws.ensures in
     let next = subst (λ (t : StoreTerm). IsNextId c.args.want.now c.loop-id.place t.kept.chains (Some c.in-Some.id))
-    c.self.view_is c.in-Some.ensures.id in
+    c.self.view_is (subst (λ w. IsNextId w c.loop-id.place c.self.inside.kept.chains (Some c.in-Some.id))
+    c.of-wanted.ensures c.in-Some.ensures.id) in
     λ s h. (step-more law.read law.states c.one_structure.ensures c.args.self.now c.args.pin.now c.requires.held
     c.args.want.now c.args.from c.loop-id.place c.in-Some.id c.args.steps.now c.loop-id.steps c.look-found.new.steps
     c.loop-id.invariant.later next c.look-found.ensures.steps c.loop-id.invariant.taken s h).steps
@@ -85,7 +87,8 @@ pub returns-in_err-gather-clause-steps : goal.returns-in_err-gather-clause-steps
 returns-in_err-gather-clause-steps g c =
     let law = c.laws.ensures in
     let next = subst (λ (t : StoreTerm). IsNextId c.args.want.now c.loop-id.place t.kept.chains (Some c.in-Some.id))
-    c.self.view_is c.in-Some.ensures.id in
+    c.self.view_is (subst (λ w. IsNextId w c.loop-id.place c.self.inside.kept.chains (Some c.in-Some.id))
+    c.of-wanted.ensures c.in-Some.ensures.id) in
     λ s h. (step-more law.read law.states c.one_structure.ensures c.args.self.now c.args.pin.now c.requires.held
     c.args.want.now c.args.from c.loop-id.place c.in-Some.id c.args.steps.now c.loop-id.steps c.look-found.new.steps
     c.loop-id.invariant.later next c.look-found.ensures.steps c.loop-id.invariant.taken s h).steps
@@ -114,7 +117,8 @@ pub returns-then-records-len-clause-page : goal.returns-then-records-len-clause-
 returns-then-records-len-clause-page g c =
     let law = c.laws.ensures in
     let next = subst (λ (t : StoreTerm). IsNextId c.args.want.now c.loop-id.place t.kept.chains (Some c.in-Some.id))
-    c.self.view_is c.in-Some.ensures.id in
+    c.self.view_is (subst (λ w. IsNextId w c.loop-id.place c.self.inside.kept.chains (Some c.in-Some.id))
+    c.of-wanted.ensures c.in-Some.ensures.id) in
     let latest = subst (λ l. IsLatest c.args.pin.now.version (chain_of l c.in-Some.id) (kept_of c.look-found.result))
     c.loop-id.invariant.finder c.look-found.ensures.latest in
     let full = length-append c.loop-id.page.records c.loop-id.waiting in
@@ -137,7 +141,7 @@ returns-then-records-len-clause-page g c =
 pub overflow_add-place : goal.overflow_add-place
 overflow_add-place g c =
     let (k, there, print) = c.in-Some.ensures.id.1 in
-    let most = in-range c.args.want.now c.in-Some.id k.value
+    let most = in-range c.of-wanted.result c.in-Some.id k.value
     ((c.self.invariant.1.chains c.in-Some.id).records k there) print in
     omega (arith, most)
 
@@ -145,7 +149,8 @@ pub loop-id-preserved : goal.loop-id-preserved
 loop-id-preserved g c =
     let law = c.laws.ensures in
     let next = subst (λ (t : StoreTerm). IsNextId c.args.want.now c.loop-id.place t.kept.chains (Some c.in-Some.id))
-    c.self.view_is c.in-Some.ensures.id in
+    c.self.view_is (subst (λ w. IsNextId w c.loop-id.place c.self.inside.kept.chains (Some c.in-Some.id))
+    c.of-wanted.ensures c.in-Some.ensures.id) in
     let latest = subst (λ l. IsLatest c.args.pin.now.version (chain_of l c.in-Some.id) (kept_of c.look-found.result))
     c.loop-id.invariant.finder c.look-found.ensures.latest in
     let low = c.loop-id.invariant.later in
@@ -218,7 +223,8 @@ pub returns-clause-page : goal.returns-clause-page
 returns-clause-page g c =
     let law = c.laws.ensures in
     let none = subst (λ (t : StoreTerm). IsNextId c.args.want.now c.loop-id.place t.kept.chains None)
-    c.self.view_is c.in_default.ensures.id in
+    c.self.view_is (subst (λ w. IsNextId w c.loop-id.place c.self.inside.kept.chains None)
+    c.of-wanted.ensures c.in_default.ensures.id) in
     let long = length-append c.loop-id.page.records c.loop-id.waiting in
     λ s h. subst
     (λ l. IsPage (snapshot s.history c.args.pin.now.version) c.args.want.now c.args.from c.args.limit l true)

@@ -2,7 +2,7 @@ use Rattle.std.proofs.Common.{nat_le, rules}
 use Rattle.std.proofs.lemmas.Bool.{leb-false, leb-true}
 use Rattle.std.proofs.lemmas.List.Sorted.{IsPartitionPoint-from_clause}
 use Rattle.record_versions.proofs.Order.{parted}
-use Rattle.record_versions.proofs.entries.older_up_to.Goals as goal
+use Rattle.record_versions.proofs.ring.older_up_to.Goals as goal
 
 pub returns-clause-before : goal.returns-clause-before
 returns-clause-before g c =

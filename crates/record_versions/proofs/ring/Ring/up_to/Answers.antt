@@ -1,7 +1,7 @@
 use Rattle.std.proofs.Common.{◌≡◌, ◌++◌, ◌≤◌, [], ◌∷◌, ◌∙◌, ap, arith, get_or, option_to_list, subst, sym}
 use Rattle.record_versions.specs.Rows.{Row}
 use Rattle.record_versions.proofs.Order.{Ascends, up-to-last}
-use Rattle.record_versions.proofs.entries.Entries.up_to.Goals as goal
+use Rattle.record_versions.proofs.ring.Ring.up_to.Goals as goal
 
 pub returns-in-Some-clause-before : goal.returns-in-Some-clause-before
 returns-in-Some-clause-before g c =

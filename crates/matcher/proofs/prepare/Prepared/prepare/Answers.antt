@@ -1,0 +1,24 @@
+use Rattle.std.proofs.Common.{IfSome, ap, length, subst, sym}
+use Rattle.smarts_parse.specs.Pattern.{graph_of, pattern_of}
+use Rattle.matcher.specs.Prepared.{ArePartMarks}
+use Rattle.matcher.proofs.OnlyParts.{part_marked, part_read}
+use Rattle.matcher.proofs.Rings.{one_marks}
+use Rattle.matcher.proofs.prepare.Prepared.prepare.Goals as goal
+
+pub find-requires-in-Some : goal.find-requires-in-Some
+find-requires-in-Some c = c.part-steps.ensures (graph_of c.index-in-Some.result.now)
+    (part_read c.args.pattern.now c.in-Some.part c.index-in-Some.result.now c.in-Some.ensures c.index-in-Some.ensures)
+
+pub returns-in-Some : goal.returns-in-Some
+returns-in-Some c =
+    let p = pattern_of c.args.pattern.now in
+    let marks = c.find-in-Some.new.self.on_ring.items in
+    record {
+      planned = c.plan.ensures;
+      wanted = c.find.ensures;
+      only = c.only_part-part.ensures;
+      top_marks = one_marks p.top marks c.plan.ensures.top.ready.searchable (ap length (c.in-Some.ensures).1);
+      part_marks = subst (λ o. IfSome o (ArePartMarks p marks)) (sym c.in-Some.is)
+          (part_marked c.args.pattern.now c.in-Some.part c.index-in-Some.result.now marks c.in-Some.ensures
+          c.index-in-Some.ensures c.find-in-Some.ensures);
+    }

@@ -1,0 +1,44 @@
+//! A print that is wanted of others.
+ghost use Rattle.std.specs.Prelude.{◌≡◌, ◌↔◌, IsTrue};
+ghost use Rattle.screen_index.specs.Pairs.{Holds};
+
+use chem_core::Print;
+use std::marker::Model;
+
+/// A print whose bits are wanted, and whether it has none, which is asked once for many looks. Contracts see its bits.
+#[derive(Drop)]
+pub struct Want<'a> {
+    print: &'a Print,
+    is_any: bool,
+}
+
+impl<'a> Model for Want<'a> {
+    ghost use Rattle.std.specs.Prelude.{◌↔◌, Bool, IsTrue, List, ℕ};
+    ghost use Rattle.chem_core.specs.Bits.{HasBit};
+
+    ghost Value = { List Bool };
+
+    ghost view = { λ w. w.print.now };
+
+    ghost invariant = { λ w. IsTrue w.is_any ↔ ((bit : ℕ) → ¬ HasBit w.print.now bit) };
+}
+
+impl<'a> Want<'a> {
+    /// The bits of a print are wanted.
+    pub fn of(print: &'a Print) -> Want<'a>
+        ensures { result ≡ print.now }
+    {
+        Want {
+            print,
+            is_any: print.is_empty(),
+        }
+    }
+
+    // Whether a print has each of them. Where nothing is wanted it is not read.
+    #[inline(always)]
+    pub(crate) fn is_met_by(&self, print: &Print) -> bool
+        ensures { IsTrue result ↔ Holds print.now self.now }
+    {
+        self.is_any || print.holds(self.print)
+    }
+}
