@@ -2,7 +2,7 @@
 use std::marker::Model;
 use std::sync::ledger::{Blank, Book, Ledger, Share};
 
-/// How many kept entries were read. It takes no bytes, and only looks at chains raise it.
+/// How many kept entries were read. It takes no bytes. A look at a chain raises it, and who has an entry's value elsewhere.
 #[derive(Drop)]
 pub struct Steps<L: Ledger> {
     book: Book<L>,
@@ -33,8 +33,8 @@ impl<L: Ledger> Steps<L> {
         Steps { book, share }
     }
 
-    // One more.
-    pub(crate) fn raise(&mut self)
+    /// One more.
+    pub fn raise(&mut self)
         ensures { self.new ≡ self.old + 1 }
     {
         self.book.add(&mut self.share, 1);

@@ -1,8 +1,8 @@
 //! A run of pairs in ascending order, with a union of their prints.
-ghost use Rattle.std.specs.Prelude.{◌≡◌, ◌+◌, ◌++◌, ◌<◌, ◌≤◌, [], All, IfOk, IsTrue, false, filter, length, vec_capacity};
+ghost use Rattle.std.specs.Prelude.{◌≡◌, ◌+◌, ◌++◌, ◌<◌, ◌≤◌, [], All, IfOk, IsTrue, false, filter, length, option_copied, vec_capacity};
 ghost use Rattle.std.specs.List.{AllWithin};
 ghost use Rattle.screen_index.specs.declared.entry.Screened.{Screened};
-ghost use Rattle.screen_index.specs.Pairs.{Ascend, IsNext, Lacks, Rises, ends_before, is_apart, put_in, rank, rank_of};
+ghost use Rattle.screen_index.specs.Pairs.{Ascend, IsNext, Lacks, Rises, ends_before, is_apart, put_in, rank, rank_of, superseded};
 
 use crate::entry::Screened;
 use crate::union::union_of;
@@ -16,18 +16,18 @@ pub const ROOM: usize = 256;
 
 /// Contracts see the pairs. The union holds the print of each of them, and maybe bits of others that were there.
 #[derive(Drop)]
-pub struct Block {
-    entries: Vec<Screened>,
+pub struct Block<V> {
+    entries: Vec<Screened<V>>,
     union: Print,
 }
 
-impl Model for Block {
+impl<V> Model for Block<V> {
     ghost use Rattle.std.specs.Prelude.{◌≤◌, List, length};
     ghost use Rattle.std.specs.Vec.{vec_capacity};
     ghost use Rattle.screen_index.specs.declared.entry.Screened.{Screened};
     ghost use Rattle.screen_index.specs.Pairs.{AreCovered};
 
-    ghost Value = { List Screened };
+    ghost Value = { List (Screened V) };
 
     ghost view = { λ b. b.entries.items };
 
@@ -35,9 +35,9 @@ impl Model for Block {
         × AreCovered b.union b.entries.items };
 }
 
-impl Block {
+impl<V: Drop> Block<V> {
     /// Without pairs.
-    pub fn new(alloc: Global) -> Result<Block, AllocError>
+    pub fn new(alloc: Global) -> Result<Block<V>, AllocError>
         ensures { IfOk result (λ b. b ≡ []) }
     {
         Ok(Block {
@@ -103,7 +103,7 @@ impl Block {
     }
 
     /// Puts a pair in at its place.
-    pub fn insert(&mut self, entry: Screened)
+    pub fn insert(&mut self, entry: Screened<V>)
         requires room { length self.old < ROOM }
         requires ascending { Ascend 0 self.old }
         requires absent { Lacks (rank_of entry) self.old }
@@ -118,7 +118,7 @@ impl Block {
 
     /// Puts a pair into a full block, whose pairs from some index on move to a block without pairs. New pairs behind
     /// the others, or before them, leave full blocks behind.
-    pub fn insert_split(&mut self, entry: Screened, upper: &mut Block)
+    pub fn insert_split(&mut self, entry: Screened<V>, upper: &mut Block<V>)
         requires full { ROOM ≤ length self.old }
         requires ascending { Ascend 0 self.old }
         requires absent { Lacks (rank_of entry) self.old }
@@ -133,6 +133,17 @@ impl Block {
             self.insert(entry);
         } else {
             upper.insert(entry);
+        }
+    }
+
+    /// Notes of the pair at a place, where there is one, before which version it is the latest.
+    pub fn supersede(&mut self, place: (u32, u32), until: u32)
+        requires { Ascend 0 self.old }
+        ensures { self.new ≡ superseded (rank place.0 place.1) until self.old }
+    {
+        let index = self.count_before(place);
+        if index < self.entries.len() && !self.entries[index].is_behind(place) {
+            self.entries[index].until = until;
         }
     }
 
@@ -159,9 +170,9 @@ impl Block {
 
     /// The least pair from a place on whose print holds what is wanted. Where nothing is wanted no print is read. The hint
     /// is the index at which the pairs from the place on may begin, and then the one behind the answer.
-    pub fn next(&self, want: &Want<'_>, from: (u32, u32), hint: &mut usize) -> Option<(u32, u32)>
+    pub fn next(&self, want: &Want<'_>, from: (u32, u32), hint: &mut usize) -> Option<&Screened<V>>
         requires { Ascend 0 self.now }
-        ensures { IsNext want.now (rank from.0 from.1) self.now result }
+        ensures { IsNext want.now (rank from.0 from.1) self.now (option_copied result) }
     {
         let start = self.count_near(from, *hint);
         // The union is asked once, where a search enters the block.
@@ -172,14 +183,14 @@ impl Block {
             let entry = &self.entries[place];
             if want.is_met_by(&entry.print) {
                 *hint = place + 1;
-                return Some((entry.id, entry.version));
+                return Some(entry);
             }
         }
         None
     }
 
     // Moves the pairs from an index on into a block without pairs.
-    fn split(&mut self, index: usize, upper: &mut Block)
+    fn split(&mut self, index: usize, upper: &mut Block<V>)
         requires within { index ≤ length self.old }
         requires empty { upper.old ≡ [] }
         ensures whole { self.new ++ upper.new ≡ self.old }
@@ -192,7 +203,7 @@ impl Block {
     }
 
     /// Moves all pairs of the next block to the end of this one.
-    pub fn append(&mut self, next: &mut Block)
+    pub fn append(&mut self, next: &mut Block<V>)
         requires { length self.old + length next.old ≤ ROOM }
         ensures moved { self.new ≡ self.old ++ next.old }
         ensures empty { next.new ≡ [] }
@@ -205,7 +216,7 @@ impl Block {
 }
 
 // Moves the elements from an index on to the end of an empty vector with room for them.
-fn move_tail(entries: &mut Vec<Screened>, index: usize, upper: &mut Vec<Screened>)
+fn move_tail<V>(entries: &mut Vec<Screened<V>>, index: usize, upper: &mut Vec<Screened<V>>)
     requires within { index ≤ length entries.old.items }
     requires room { length entries.old.items ≤ index + vec_capacity upper.old }
     requires empty { upper.old.items ≡ [] }
@@ -239,7 +250,7 @@ fn split_point(before: usize, len: usize) -> usize
 }
 
 // Takes the pairs of some places out of pairs.
-fn drop_places(entries: &mut Vec<Screened>, places: &[(u32, u32)])
+fn drop_places<V: Drop>(entries: &mut Vec<Screened<V>>, places: &[(u32, u32)])
     requires { Rises places.now }
     ensures entries { entries.new.items ≡ filter (is_apart places.now) entries.old.items }
     ensures fewer { length entries.new.items ≤ length entries.old.items }

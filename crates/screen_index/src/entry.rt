@@ -1,18 +1,21 @@
-//! A pair of an identifier and a version, with its print.
+//! A pair of an identifier and a version, with its print and a value.
 ghost use Rattle.std.specs.Prelude.{◌≡◌, nat_lt};
 ghost use Rattle.screen_index.specs.Pairs.{Rises, is_apart, rank, rank_of};
 
 use chem_core::Print;
 
-/// A print, and the identifier and version that it is of.
+/// A print, the identifier and version that it is of, and a value.
 #[derive(Drop)]
-pub struct Screened {
+pub struct Screened<V> {
     pub id: u32,
     pub version: u32,
+    /// Before which version it is known to be its identifier's latest; `u32::MAX` where none is known to follow.
+    pub until: u32,
+    pub value: V,
     pub print: Print,
 }
 
-impl Screened {
+impl<V> Screened<V> {
     /// Whether it stands before a place, by identifier and then by version.
     pub fn is_before(&self, place: (u32, u32)) -> bool
         ensures { result ≡ nat_lt (rank_of self.now) (rank place.0 place.1) }
@@ -20,6 +23,13 @@ impl Screened {
         let (own, version) = (self.id, self.version);
         let (id, other) = place;
         own < id || own == id && version < other
+    }
+
+    /// Whether it stands behind a place.
+    pub fn is_behind(&self, place: (u32, u32)) -> bool
+        ensures { result ≡ nat_lt (rank place.0 place.1) (rank_of self.now) }
+    {
+        is_before(place, (self.id, self.version))
     }
 
     /// Whether it stands at none of some places.

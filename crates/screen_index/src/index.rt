@@ -1,7 +1,7 @@
 //! The blocks of an index, and where a pair goes among them.
-ghost use Rattle.std.specs.Prelude.{◌≡◌, ◌+◌, ◌<◌, ◌≤◌, [], All, IfSome, IsTrue, None, OnErr, OnOk, Some, drop, filter, length, take, vec_capacity, vec_len};
+ghost use Rattle.std.specs.Prelude.{◌≡◌, ◌+◌, ◌<◌, ◌≤◌, [], All, IfSome, IsSome, IsTrue, None, OnErr, OnOk, Some, drop, filter, length, option_copied, take, vec_capacity, vec_len};
 ghost use Rattle.screen_index.specs.declared.entry.Screened.{Screened};
-ghost use Rattle.screen_index.specs.Pairs.{AreBlocks, Ascend, IsNext, Lacks, Rises, is_apart, joined, put_in, rank, rank_of};
+ghost use Rattle.screen_index.specs.Pairs.{AreBlocks, Ascend, IsNext, Lacks, Rises, is_apart, joined, new_pair, put_in, rank, rank_of, superseded};
 
 use crate::block::{Block, ROOM};
 use crate::entry::Screened;
@@ -11,31 +11,31 @@ use chem_core::Print;
 use std::alloc::{AllocError, Global};
 use std::marker::Model;
 
-/// A map from identifiers and versions to prints. Contracts see its pairs in ascending order, and the print for which
-/// memory was taken.
+/// A map from identifiers and versions to prints, each with a value. Contracts see its pairs in ascending order, and
+/// the print and value for which memory was taken.
 #[derive(Drop)]
-pub struct ScreenIndex {
+pub struct ScreenIndex<V> {
     alloc: Global,
-    blocks: Vec<Block>,
-    spare: Option<Block>,
-    print: Option<Print>,
+    blocks: Vec<Block<V>>,
+    spare: Option<Block<V>>,
+    next: Option<(Print, V)>,
 }
 
-impl Model for ScreenIndex {
+impl<V> Model for ScreenIndex<V> {
     ghost use Rattle.std.specs.Prelude.{◌≡◌, ◌<◌, [], IfSome, Some, vec_capacity, vec_len};
     ghost use Rattle.screen_index.specs.Pairs.{AreBlocks, IndexTerm, joined};
 
-    ghost Value = { IndexTerm };
+    ghost Value = { IndexTerm V };
 
-    ghost view = { λ s. record { entries = joined s.blocks.items; reserved = s.print } };
+    ghost view = { λ s. record { entries = joined s.blocks.items; reserved = s.next } };
 
     ghost invariant = { λ s. AreBlocks s.blocks.items × IfSome s.spare (λ b. b ≡ [])
-        × IfSome s.print (λ _. (s.spare ≡ Some []) × (vec_len s.blocks < vec_capacity s.blocks)) };
+        × IfSome s.next (λ _. (s.spare ≡ Some []) × (vec_len s.blocks < vec_capacity s.blocks)) };
 }
 
-impl ScreenIndex {
+impl<V: Drop> ScreenIndex<V> {
     /// Without pairs. It takes no memory.
-    pub fn new(alloc: Global) -> ScreenIndex
+    pub fn new(alloc: Global) -> ScreenIndex<V>
         ensures entries { result.entries ≡ [] }
         ensures reserved { result.reserved ≡ None }
     {
@@ -43,14 +43,14 @@ impl ScreenIndex {
             alloc,
             blocks: Vec::new(alloc),
             spare: None,
-            print: None,
+            next: None,
         }
     }
 
-    /// Takes the memory for one pair more, with this print.
-    pub fn reserve(&mut self, print: &Print) -> Result<(), AllocError>
+    /// Takes the memory for one pair more, with this print and value.
+    pub fn reserve(&mut self, print: &Print, value: V) -> Result<(), AllocError>
         ensures entries { self.new.entries ≡ self.old.entries }
-        ensures ok { OnOk result (self.new.reserved ≡ Some print.now) }
+        ensures ok { OnOk result (self.new.reserved ≡ Some (print.now, value)) }
         ensures err { OnErr result (self.new.reserved ≡ self.old.reserved) }
     {
         let print = print.clone()?;
@@ -58,22 +58,43 @@ impl ScreenIndex {
         if self.spare.is_none() {
             self.spare = Some(Block::new(self.alloc)?);
         }
-        self.print = Some(print);
+        self.next = Some((print, value));
         Ok(())
     }
 
-    /// Puts in a pair that is new. It takes no memory.
-    pub fn add(&mut self, id: u32, version: u32, print: &Print)
-        requires reserved { self.old.reserved ≡ Some print.now }
+    /// Puts in a pair that is new, with the print and value that memory was taken for. It takes no memory.
+    pub fn add(&mut self, id: u32, version: u32)
+        requires reserved { IsSome self.old.reserved }
         requires absent { Lacks (rank id version) self.old.entries }
-        ensures entries { self.new.entries
-            ≡ put_in (record { id = id; version = version; print = print.now }) self.old.entries }
+        ensures entries { IfSome self.old.reserved (λ r. self.new.entries
+            ≡ put_in (new_pair id version r.0 r.1) self.old.entries) }
         ensures reserved { self.new.reserved ≡ None }
     {
-        let (Some(print), Some(spare)) = (self.print.take(), self.spare.take()) else {
+        let (Some((print, value)), Some(spare)) = (self.next.take(), self.spare.take()) else {
             return;
         };
-        self.spare = put(&mut self.blocks, spare, Screened { id, version, print });
+        self.spare = put(
+            &mut self.blocks,
+            spare,
+            Screened {
+                id,
+                version,
+                until: u32::MAX,
+                value,
+                print,
+            },
+        );
+    }
+
+    /// Notes of the pair at a place, where there is one, before which version it is the latest. It takes no memory.
+    pub fn supersede(&mut self, id: u32, version: u32, until: u32)
+        ensures entries { self.new.entries ≡ superseded (rank id version) until self.old.entries }
+        ensures reserved { self.new.reserved ≡ self.old.reserved }
+    {
+        let place = block_of(&self.blocks, (id, version));
+        if place < self.blocks.len() {
+            self.blocks[place].supersede((id, version), until);
+        }
     }
 
     /// Takes out the pairs of some places, which ascend. It takes no memory.
@@ -87,8 +108,8 @@ impl ScreenIndex {
 
     /// The least pair from a place on whose print holds what is wanted. `None` exactly where there is none. The answer
     /// is the same whatever the hint says; then the hint is for the pairs behind the answer. It takes no memory.
-    pub fn next(&self, want: &Want<'_>, from: (u32, u32), hint: &mut Hint) -> Option<(u32, u32)>
-        ensures next { IsNext want.now (rank from.0 from.1) self.now.entries result }
+    pub fn next(&self, want: &Want<'_>, from: (u32, u32), hint: &mut Hint) -> Option<&Screened<V>>
+        ensures next { IsNext want.now (rank from.0 from.1) self.now.entries (option_copied result) }
         ensures ascending { Ascend 0 self.now.entries }
     {
         for place in block_near(&self.blocks, from, hint.block)..self.blocks.len() {
@@ -103,7 +124,7 @@ impl ScreenIndex {
 }
 
 // How many blocks end before a place.
-fn block_of(blocks: &Vec<Block>, place: (u32, u32)) -> usize
+fn block_of<V: Drop>(blocks: &Vec<Block<V>>, place: (u32, u32)) -> usize
     requires { AreBlocks blocks.now.items }
     ensures within { result ≤ length blocks.now.items }
     ensures before { All (λ x. rank_of x < rank place.0 place.1) (joined (take result blocks.now.items)) }
@@ -115,7 +136,7 @@ fn block_of(blocks: &Vec<Block>, place: (u32, u32)) -> usize
 }
 
 // The same, where the hint is looked at first.
-fn block_near(blocks: &Vec<Block>, place: (u32, u32), hint: usize) -> usize
+fn block_near<V: Drop>(blocks: &Vec<Block<V>>, place: (u32, u32), hint: usize) -> usize
     requires { AreBlocks blocks.now.items }
     ensures within { result ≤ length blocks.now.items }
     ensures before { All (λ x. rank_of x < rank place.0 place.1) (joined (take result blocks.now.items)) }
@@ -129,7 +150,7 @@ fn block_near(blocks: &Vec<Block>, place: (u32, u32), hint: usize) -> usize
 }
 
 // Whether the block at an index does not end before a place, and the one in front of it does.
-fn is_block_of(blocks: &Vec<Block>, index: usize, place: (u32, u32)) -> bool
+fn is_block_of<V: Drop>(blocks: &Vec<Block<V>>, index: usize, place: (u32, u32)) -> bool
     requires { AreBlocks blocks.now.items }
     ensures within { IsTrue result → index ≤ length blocks.now.items }
     ensures before { IsTrue result
@@ -144,7 +165,11 @@ fn is_block_of(blocks: &Vec<Block>, index: usize, place: (u32, u32)) -> bool
 }
 
 // Puts a pair in, and gives the spare block back where it was not needed.
-fn put(blocks: &mut Vec<Block>, mut spare: Block, entry: Screened) -> Option<Block>
+fn put<V: Drop>(
+    blocks: &mut Vec<Block<V>>,
+    mut spare: Block<V>,
+    entry: Screened<V>,
+) -> Option<Block<V>>
     requires blocks { AreBlocks blocks.old.items }
     requires room { vec_len blocks.old < vec_capacity blocks.old }
     requires empty { spare ≡ [] }
@@ -173,7 +198,7 @@ fn put(blocks: &mut Vec<Block>, mut spare: Block, entry: Screened) -> Option<Blo
 }
 
 // Takes out the pairs of some places, which ascend.
-fn drop_all(blocks: &mut Vec<Block>, places: &[(u32, u32)])
+fn drop_all<V: Drop>(blocks: &mut Vec<Block<V>>, places: &[(u32, u32)])
     requires blocks { AreBlocks blocks.old.items }
     requires rises { Rises places.now }
     ensures entries { joined blocks.new.items
@@ -190,7 +215,7 @@ fn drop_all(blocks: &mut Vec<Block>, places: &[(u32, u32)])
 
 // Takes out the pairs of the first of some places, those that fall into one block, and returns how many places these
 // are. A block that has few pairs left goes into the one before it or behind it.
-fn drop_first(blocks: &mut Vec<Block>, places: &[(u32, u32)]) -> usize
+fn drop_first<V: Drop>(blocks: &mut Vec<Block<V>>, places: &[(u32, u32)]) -> usize
     requires blocks { AreBlocks blocks.old.items }
     requires rises { Rises places.now }
     requires some { 0 < length places.now }
@@ -221,7 +246,7 @@ fn drop_first(blocks: &mut Vec<Block>, places: &[(u32, u32)]) -> usize
 }
 
 // Moves the pairs of the next block into this one, where both together fill half a block at most.
-fn join_next(blocks: &mut Vec<Block>, index: usize)
+fn join_next<V: Drop>(blocks: &mut Vec<Block<V>>, index: usize)
     requires blocks { AreBlocks blocks.old.items }
     requires within { index < vec_len blocks.old }
     ensures entries { joined blocks.new.items ≡ joined blocks.old.items }

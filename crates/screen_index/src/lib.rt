@@ -1,5 +1,7 @@
-//! An index of prints by identifier and version: from a place on, the next pair whose print holds what a pattern
-//! needs. All but `reserve` take no memory.
+//! An index of prints by identifier and version, each with a value: from a place on, the next pair whose print holds
+//! what a pattern needs. All but `reserve` take no memory.
+//!
+//! A pair knows before which version it is its identifier's latest, as far as it was noted.
 //!
 //! The pairs stand in ascending order in blocks of at most 256, each with a union of its prints. A block whose union
 //! lacks a bit is passed over; to put a pair in, or to take one out, moves no more than one block. Who goes on behind
@@ -13,6 +15,7 @@ mod index;
 mod union;
 mod want;
 
+pub use entry::Screened;
 pub use hint::Hint;
 pub use index::ScreenIndex;
 pub use want::Want;

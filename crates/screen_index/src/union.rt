@@ -5,7 +5,7 @@ use crate::entry::Screened;
 use chem_core::Print;
 
 /// A print that holds the print of each of these.
-pub fn union_of(entries: &[Screened]) -> Print
+pub fn union_of<V>(entries: &[Screened<V>]) -> Print
     ensures { AreCovered result entries.now }
 {
     let mut union = Print::empty();

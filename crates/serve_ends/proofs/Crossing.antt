@@ -55,8 +55,8 @@ record-send = search (sendable, crosses) depth 40 fits 20000
 record-sync : IsSync record_row
 record-sync = search (sendable, crosses) depth 40 fits 20000
 
-index-send : IsSend index_row
-index-send = search (sendable, crosses) depth 40
+index-send : (V : RattleType) → IsSend V → IsSend (index_row V)
+index-send V v = search (sendable, crosses) depth 40 fits 20000
 
 ring-send : (V : RattleType) → IsSend V → IsSend (ring_row V)
 ring-send V v = search (sendable, crosses) depth 40 fits 20000
@@ -71,8 +71,7 @@ entries-send : IsSend entries_row
 entries-send =
     let s = record-send in
     let y = record-sync in
-    let i = index-send in
-    search (sendable, crosses, chains-send) depth 40
+    search (sendable, crosses, chains-send, index-send) depth 40
 
 memory-send : IsSend memory_row
 memory-send = let e = entries-send in search (sendable, crosses) depth 40

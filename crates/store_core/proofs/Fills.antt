@@ -1,22 +1,24 @@
 -- A page is filled from one identifier to the next whose print holds what is wanted.
-use Rattle.std.proofs.Common.{◌≡◌, ◌+◌, ◌++◌, ◌≤◌, ◌∙◌, ap, append_assoc, arith, Bool, Contains, false, length, List, [], ◌∷◌, None, Option, Some, sym, true, ℕ}
+use Rattle.std.proofs.Common.{◌≡◌, ◌+◌, ◌++◌, ◌≤◌, ◌∙◌, ap, append_assoc, arith, Bool, Contains, false, length, List, [], ◌∷◌, None, Option, option_map, refl, Some, subst, sym, true, ℕ}
 use Rattle.std.proofs.lemmas.List.{append-nil, map-append}
+use Rattle.std.proofs.lemmas.Option.{same_Some}
 use Rattle.std.specs.Arc.{arc_value}
-use Rattle.record_versions.specs.Entries.{IsLatest, chain_of}
+use Rattle.record_versions.specs.Entries.{chain_of}
 use Rattle.snap_registry.specs.declared.Pin.{Pin}
 use Rattle.store_machine.specs.Answers.{AreFound, from_on}
-use Rattle.store_machine.specs.History.{snapshot}
+use Rattle.store_machine.specs.History.{IsId, snapshot}
 use Rattle.store_machine.specs.Laws.{KeptIsRead, StatesStay}
 use Rattle.store_machine.specs.Machine.{IsPage}
 use Rattle.store_machine.specs.Structures.{IsScreened}
 use Rattle.store_machine.specs.declared.machine.Found.{Found}
 use Rattle.store_machine.specs.declared.machine.State.{State}
-use Rattle.store_core.specs.Kept.{HasPrint, IsEntryOf, IsNextId, Kept, record_of}
-use Rattle.store_core.specs.Records.{Shared, found_of, founds}
-use Rattle.store_core.specs.Stored.{StandsFor, StoreTerm, served}
+use Rattle.store_core.specs.Kept.{HasPrint, IsEntryOf, IsFoundAt, IsNextId, record_of}
+use Rattle.store_core.specs.Records.{RecordTerm, Shared, found_of, founds}
+use Rattle.store_core.specs.Stored.{Served, StandsFor, StoreTerm, served}
 use Rattle.store_core.proofs.Fetched.{below-all, found-all, held-kept, here, none-left, not-here, skip}
 use Rattle.store_core.proofs.Found.{at-end, at-limit}
 use Rattle.store_core.proofs.Screened.{OneStructure}
+use Rattle.store_core.proofs.Sees.{own-record}
 use Rattle.store_core.proofs.Stepped.{SoFar, one-step}
 
 -- the page has what is found up to an identifier
@@ -37,58 +39,82 @@ pub in-range : (want : List Bool) (id : ℕ) (entry : Option Shared) → IsEntry
 in-range want id None own print = absurd print
 in-range want id (Some r) own print = let most = own.0.id.1 in omega (arith, most, own.1)
 
+-- the record of an entry, to which another reference was found
+record Owned (want : List Bool) (o : Option Shared) (r : Shared) : Type 0 where
+  own : Shared
+  is : o ≡ Some own
+  print : HasPrint want (Some own)
+  value : arc_value own ≡ arc_value r
+
+owned : (want : List Bool) (o : Option Shared) (r : Shared)
+    → HasPrint want o × (option_map (λ (q : Shared). arc_value q) o ≡ Some (arc_value r)) → Owned want o r
+owned want None r found = absurd found.0
+owned want (Some q) r found = record {
+  own = q;
+  is = refl;
+  print = found.0;
+  value = same_Some (arc_value q) (arc_value r) found.1;
+}
+
+-- it is of an identifier in range
+pub found-id : (store : StoreTerm) (s : Served) (h : StandsFor store s) (want : List Bool) (v id : ℕ) (r : Shared)
+    → IsFoundAt v want (chain_of store.kept.chains id) (Some r) → IsId (arc_value r).id
+found-id store s h want v id r found =
+    let o = owned want (record_of found.latest) r found.is_found in
+    subst (λ (x : RecordTerm). IsId x.id) o.value
+    (own-record store s h id v found.latest o.own found.is_latest o.is).id
+
 module _ (read : KeptIsRead) (stay : StatesStay) (one : OneStructure) (store : StoreTerm) (pin : Pin)
     (held : Contains store.pins pin) (want : List Bool) (from : ℕ) where
   abbrev Goes : ℕ → List Shared → Type 0
   Goes place page = GoesOn store pin.version want from place page
 
-  abbrev Latest : ℕ → Option Kept → Type 0
-  Latest id o = IsLatest pin.version (chain_of store.kept.chains id) o
+  abbrev Finds : ℕ → Option Shared → Type 0
+  Finds id found = IsFoundAt pin.version want (chain_of store.kept.chains id) found
 
   -- the next identifier's record is found
-  found-next : (place id : ℕ) (o : Option Kept) (shared : Shared) (page : List Shared) → Goes place page
-      → IsNextId want place store.kept.chains (Some id) → Latest id o → record_of o ≡ Some shared
-      → HasPrint want (Some shared) → (s : State) → StandsFor store (served s) → (all : List Found)
+  found-next : (place id : ℕ) (r : Shared) (page : List Shared) → Goes place page
+      → IsNextId want place store.kept.chains (Some id) → Finds id (Some r)
+      → (s : State) → StandsFor store (served s) → (all : List Found)
       → AreFound (IsScreened want) (snapshot s.history pin.version) all
-      → from_on from all ≡ founds page ++ found_of (arc_value shared) ∷ from_on (id + 1) all
-  found-next place id o shared page goes next latest value print s h all found =
+      → from_on from all ≡ founds page ++ found_of (arc_value r) ∷ from_on (id + 1) all
+  found-next place id r page goes next finds s h all found =
       let keeps = held-kept store s pin h held in
+      let o = owned want (record_of finds.latest) r finds.is_found in
       goes s h all found ∙ ap (λ l. founds page ++ l)
       (skip read stay one store s pin.version h keeps want all found place id next.0 next.2
-      ∙ here read stay one store s pin.version h keeps want all found id o shared latest value print)
+      ∙ (here read stay one store s pin.version h keeps want all found id finds.latest o.own finds.is_latest o.is
+      o.print
+      ∙ ap (λ x. found_of x ∷ from_on (id + 1) all) o.value))
 
-  pub put-on : (place id : ℕ) (o : Option Kept) (shared q : Shared) (page new : List Shared) → Goes place page
-      → IsNextId want place store.kept.chains (Some id) → Latest id o → record_of o ≡ Some shared
-      → HasPrint want (Some shared) → arc_value q ≡ arc_value shared → new ≡ page ++ q ∷ [] → Goes (id + 1) new
-  put-on place id o shared q page new goes next latest value print clone more s h all found =
-      let rest = from_on (id + 1) all in
-      let are : founds new ≡ founds page ++ found_of (arc_value shared) ∷ [] =
-      ap founds more ∙ (map-append (λ x. found_of (arc_value x)) page (q ∷ [])
-      ∙ ap (λ x. founds page ++ found_of x ∷ []) clone) in
-      found-next place id o shared page goes next latest value print s h all found
-      ∙ (sym (append_assoc (founds page) (found_of (arc_value shared) ∷ []) rest) ∙ ap (λ l. l ++ rest) (sym are))
+  pub put-on : (place id : ℕ) (r : Shared) (page : List Shared) → Goes place page
+      → IsNextId want place store.kept.chains (Some id) → Finds id (Some r) → Goes (id + 1) (page ++ r ∷ [])
+  put-on place id r page goes next finds s h all found =
+      found-next place id r page goes next finds s h all found
+      ∙ (sym (append_assoc (founds page) (found_of (arc_value r) ∷ []) (from_on (id + 1) all))
+      ∙ ap (λ l. l ++ from_on (id + 1) all) (sym (map-append (λ x. found_of (arc_value x)) page (r ∷ []))))
 
   -- it is passed by
-  pub passed-by : (place id : ℕ) (o : Option Kept) (page : List Shared) → Goes place page
-      → IsNextId want place store.kept.chains (Some id) → Latest id o → ¬ HasPrint want (record_of o)
-      → Goes (id + 1) page
-  passed-by place id o page goes next latest not s h all found =
+  pub passed-by : (place id : ℕ) (page : List Shared) → Goes place page
+      → IsNextId want place store.kept.chains (Some id) → Finds id None → Goes (id + 1) page
+  passed-by place id page goes next finds s h all found =
       let keeps = held-kept store s pin h held in
       goes s h all found ∙ ap (λ l. founds page ++ l)
       (skip read stay one store s pin.version h keeps want all found place id next.0 next.2
-      ∙ not-here read stay one store s pin.version h keeps want all found id o latest not)
+      ∙ not-here read stay one store s pin.version h keeps want all found id finds.latest finds.is_latest
+      finds.is_found)
 
   -- the page is full, and one more is found
-  pub full-page : (place id limit : ℕ) (o : Option Kept) (shared : Shared) (page : List Shared) → Goes place page
-      → IsNextId want place store.kept.chains (Some id) → Latest id o → record_of o ≡ Some shared
-      → HasPrint want (Some shared) → length page ≡ limit → (s : State) → StandsFor store (served s)
+  pub full-page : (place id limit : ℕ) (r : Shared) (page : List Shared) → Goes place page
+      → IsNextId want place store.kept.chains (Some id) → Finds id (Some r) → length page ≡ limit
+      → (s : State) → StandsFor store (served s)
       → IsPage (snapshot s.history pin.version) want from limit (founds page) false
-  full-page place id limit o shared page goes next latest value print full s h =
+  full-page place id limit r page goes next finds full s h =
       let keeps = held-kept store s pin h held in
       let all = found-all read stay one store s pin.version h keeps want 1000000000
       (below-all read stay one store s pin.version h keeps want) in
-      let is = at-limit page limit (from_on from all.0) (from_on (id + 1) all.0) (found_of (arc_value shared)) full
-      (found-next place id o shared page goes next latest value print s h all.0 all.1) in
+      let is = at-limit page limit (from_on from all.0) (from_on (id + 1) all.0) (found_of (arc_value r)) full
+      (found-next place id r page goes next finds s h all.0 all.1) in
       record { all = all.0; found = all.1; first = is.0; end = is.1 }
 
   -- nothing is left

@@ -8,6 +8,7 @@ use Rattle.store_machine.specs.declared.machine.Change.{Change}
 use Rattle.store_machine.specs.declared.machine.Status.{Status}
 use Rattle.store_core.specs.Stored.{IsAt, IsChain, alone, empty, served}
 use Rattle.store_core.specs.Kept.{KeptTerm, Lists}
+use Rattle.store_core.specs.Records.{RecordTerm}
 use Rattle.store_core.proofs.OneCall.{at-alone}
 
 none-taken : (v : ℕ) → snapshot begun v ≡ none
@@ -64,7 +65,7 @@ empty-lists = record {
   count = refl;
 }
 
-stands : (commits : ℕ) (reserved : Option (List Bool)) → commits ≤ 16777215
+stands : (commits : ℕ) (reserved : Option RecordTerm) → commits ≤ 16777215
     → IsAt (record {
       kept = record { chains = []; reserved = reserved };
       pins = [];

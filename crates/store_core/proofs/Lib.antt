@@ -2,6 +2,7 @@ mod Advances
 mod Based
 mod Beside
 mod Bits
+mod Candidates
 mod Commits
 mod Copied
 mod Counts
@@ -23,5 +24,6 @@ mod Rows
 pub mod Screened
 mod Sees
 mod Stepped
+mod Superseded
 mod Taken
 mod Waits

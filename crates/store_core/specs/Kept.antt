@@ -1,18 +1,17 @@
 -- For callers: the kept entries of a store. Each has an identifier, a version, and the record that its commit left, if
 -- it left one.
-use Rattle.std.specs.Prelude.{◌≡◌, ◌≢◌, ◌<◌, ◌≤◌, ◌↔◌, AllPairs, Bool, Contains, IfSome, length, List, None, Option, Some, ℕ}
+use Rattle.std.specs.Prelude.{◌≡◌, ◌≢◌, ◌<◌, ◌≤◌, ◌↔◌, AllPairs, Bool, Contains, IfSome, length, List, MatchOption, None, Option, option_map, Some, ℕ}
 use Rattle.std.specs.Arc.{arc_value}
 use Rattle.std.specs.Borrow.{Bor}
 use Rattle.chem_core.specs.Bits.{HasBit}
-use Rattle.record_versions.specs.Entries.{IsReserved, chain_of, entries}
+use Rattle.record_versions.specs.Entries.{IsLatest, IsReserved, chain_of, entries}
 use Rattle.record_versions.specs.Rows.{Row}
 use Rattle.record_versions.specs.declared.entries.Entry.{Entry as Versioned}
-use Rattle.screen_index.specs.Pairs.{put_in}
 use Rattle.screen_index.specs.declared.entry.Screened.{Screened}
 use Rattle.store_machine.specs.declared.machine.Entry.{Entry}
 use Rattle.store_machine.specs.declared.machine.Status.{Status}
 use Rattle.store_machine.specs.declared.machine.Status.TheVariants.{Live, Withdrawn}
-use Rattle.store_core.specs.Records.{IsRecord, Shared}
+use Rattle.store_core.specs.Records.{IsRecord, RecordTerm, Shared}
 
 -- an entry of an identifier
 abbrev pub Kept : Type 0
@@ -34,10 +33,10 @@ abbrev pub IsEntryOf : ℕ → Option Shared → Type 0
 IsEntryOf id None = Unit {0}
 IsEntryOf id (Some r) = IsRecord (arc_value r) × ((arc_value r).id ≡ id)
 
--- what contracts see of them: the entries by identifiers, and the print that memory was taken for
+-- what contracts see of them: the entries by identifiers, and the record that memory was taken for
 pub record KeptTerm : Type 0 where
   pub chains : Chains
-  pub reserved : Option (List Bool)
+  pub reserved : Option RecordTerm
 
 -- what was found of an identifier
 abbrev pub kept_of : Option (ℕ × Bor (Option Shared)) → Option Kept
@@ -54,10 +53,10 @@ abbrev pub HasPrint : List Bool → Option Shared → Type 0
 HasPrint want None = ⊥
 HasPrint want (Some r) = (bit : ℕ) → HasBit want bit → HasBit (arc_value r).print bit
 
--- there is memory for one entry more of an identifier, with this print, where it has one
-pub record HasRoom (id : ℕ) (own : Option (List Bool)) (kept : KeptTerm) : Type 0 where
+-- there is memory for one entry more of an identifier, with this record, where it has one
+pub record HasRoom (id : ℕ) (own : Option Shared) (kept : KeptTerm) : Type 0 where
   pub chain : IsReserved id kept.chains
-  pub print : IfSome own (λ p. kept.reserved ≡ Some p)
+  pub record_is : IfSome own (λ r. kept.reserved ≡ Some (arc_value r))
 
 -- the least identifier from one on that has an entry with such a print; none where none has
 abbrev pub IsNextId : List Bool → ℕ → Chains → Option ℕ → Type 0
@@ -67,9 +66,24 @@ IsNextId want from chains (Some next) = (from ≤ next)
     × ((k : Kept) × Contains (chain_of chains next) k × HasPrint want k.value)
     × ((id : ℕ) (k : Kept) → from ≤ id → Contains (chain_of chains id) k → HasPrint want k.value → next ≤ id)
 
--- if an entry is of this version and has a record, the record's print has each bit that is wanted
-abbrev pub HoldsAt : List Bool → ℕ → Kept → Type 0
-HoldsAt want version k = k.version ≡ version → IfSome k.value (λ r. HasPrint want (Some r))
+-- a pair of an index is of an entry: another reference to its record, and the version before which it is the latest
+pub record IsOf (chains : Chains) (x : Screened Shared) : Type 0 where
+  pub own : Shared
+  pub there : Contains (chain_of chains x.id) (record { version = x.version; value = Some own })
+  pub value : arc_value x.value ≡ arc_value own
+  pub until : (k : Kept) → Contains (chain_of chains x.id) k → x.version < k.version → x.until ≤ k.version
+
+-- an entry whose print has each bit that is wanted
+pub record IsCandidate (want : List Bool) (chains : Chains) (x : Screened Shared) : Type 0 where
+  pub of_entry : IsOf chains x
+  pub print : HasPrint want (Some x.value)
+
+-- a record is found of an identifier at a version exactly where the latest entry has one with such a print, which it is
+pub record IsFoundAt (version : ℕ) (want : List Bool) (ks : List Kept) (found : Option Shared) : Type 0 where
+  pub latest : Option Kept
+  pub is_latest : IsLatest version ks latest
+  pub is_found : MatchOption found (¬ HasPrint want (record_of latest)) (λ r. HasPrint want (record_of latest)
+      × (option_map (λ (q : Shared). arc_value q) (record_of latest) ≡ Some (arc_value r)))
 
 -- an identifier has an entry of a version
 abbrev pub HasEntry : Chains → Entry → Type 0
@@ -81,17 +95,12 @@ pub record Lists (es : List Entry) (chains : Chains) : Type 0 where
   pub exactly : (e : Entry) → Contains es e ↔ HasEntry chains e
   pub count : length (entries chains) ≡ length es
 
--- a print more in an index, where the entry has a record
-abbrev pub with_print : ℕ → ℕ → Option Shared → List Screened → List Screened
-with_print id version None xs = xs
-with_print id version (Some r) xs = put_in (record { id = id; version = version; print = (arc_value r).print }) xs
-
--- An index has the prints of the entries that have a record, and those alone. For private clauses alone.
-pub record AreIndexed (chains : Chains) (xs : List Screened) : Type 0 where
+-- An index has a pair of each entry that has a record, with its print, and no other. For private clauses alone.
+pub record AreIndexed (chains : Chains) (xs : List (Screened Shared)) : Type 0 where
   pub ascending : (id : ℕ) → AllPairs (λ k l. k.version < l.version) (chain_of chains id)
-  pub versions : (x : Screened) → Contains xs x → x.version < 4294967296
-  pub only : (x : Screened) → Contains xs x → (r : Shared) × (x.print ≡ (arc_value r).print)
-      × Contains (chain_of chains x.id) (record { version = x.version; value = Some r })
+  pub versions : (x : Screened Shared) → Contains xs x → x.version < 4294967296
+  pub prints : (x : Screened Shared) → Contains xs x → x.print ≡ (arc_value x.value).print
+  pub only : (x : Screened Shared) → Contains xs x → IsOf chains x
   pub all : (id version : ℕ) (r : Shared)
       → Contains (chain_of chains id) (record { version = version; value = Some r })
-      → Contains xs (record { id = id; version = version; print = (arc_value r).print })
+      → (x : Screened Shared) × Contains xs x × (x.id ≡ id) × (x.version ≡ version)

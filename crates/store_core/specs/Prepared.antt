@@ -1,13 +1,11 @@
 -- A change that a store in memory is ready to make, and why it refuses one. For callers.
-use Rattle.std.specs.Prelude.{◌≡◌, ◌≤◌, option_map, Some}
-use Rattle.std.specs.Arc.{arc_value}
+use Rattle.std.specs.Prelude.{◌≡◌, ◌≤◌, Some}
 use Rattle.store_machine.specs.History.{IsAllowed, head, id_of, refusal}
 use Rattle.store_machine.specs.Machine.{MayAdd, now}
 use Rattle.store_machine.specs.declared.machine.Change.{Change}
 use Rattle.store_machine.specs.declared.machine.Reply.TheVariants as reply
 use Rattle.store_machine.specs.declared.machine.State.{State}
 use Rattle.store_core.specs.Kept.{HasRoom}
-use Rattle.store_core.specs.Records.{Shared}
 use Rattle.store_core.specs.Replies.{change_of, left_by}
 use Rattle.store_core.specs.Stored.{StandsFor, StoreTerm, served}
 use Rattle.store_core.specs.declared.words.Change.{Change as Asked}
@@ -27,4 +25,4 @@ IsWhy s c commit.NoMemory = Unit {0}
 -- the change may be added, and its memory was taken
 pub record IsPrepared (store : StoreTerm) (c : Asked) : Type 0 where
   pub may_add : (s : State) → StandsFor store (served s) → MayAdd s (change_of c)
-  pub room : HasRoom (id_of (change_of c)) (option_map (λ (r : Shared). (arc_value r).print) (left_by c)) store.kept
+  pub room : HasRoom (id_of (change_of c)) (left_by c) store.kept

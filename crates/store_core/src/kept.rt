@@ -1,21 +1,23 @@
-//! The kept entries of a store, and an index of the prints of those that have a record.
-ghost use Rattle.std.specs.Prelude.{◌≡◌, ◌==◌, ◌+◌, ◌^◌, ◌++◌, ◌<◌, ◌≤◌, ◌↔◌, ℕ, [], ◌∷◌, All, Contains, IfSome, List, OnOk, Option, Some, filter, if◌then◌else◌, length, option_copied, option_map};
-ghost use Rattle.std.specs.Arc.{arc_value};
+//! The kept entries of a store, and an index of the prints and records of those that have one.
+ghost use Rattle.std.specs.Prelude.{◌≡◌, ◌==◌, ◌+◌, ◌^◌, ◌++◌, ◌<◌, ◌≤◌, ◌↔◌, ℕ, [], ◌∷◌, All, Contains, IfSome, List, OnOk, filter, if◌then◌else◌, length, option_copied, option_map};
 ghost use Rattle.record_versions.specs.Entries.{IsLatest, IsLeastId, IsRead, chain_of, entries, is_other};
 ghost use Rattle.store_machine.specs.declared.machine.Entry.{Entry};
-ghost use Rattle.store_core.specs.Kept.{AreIndexed, HasEntry, HasRoom, HoldsAt, IsNextId, Kept, Lists, kept_of, with_print};
-ghost use Rattle.store_core.specs.Records.{Shared};
-ghost use Rattle.screen_index.specs.Pairs.{Lacks, Rises, is_apart, rank};
+ghost use Rattle.store_core.specs.Kept.{AreIndexed, HasEntry, HasRoom, IsCandidate, IsFoundAt, IsNextId, Kept, Lists, kept_of};
+ghost use Rattle.screen_index.specs.Pairs.{Rises, is_apart, rank};
 
 use crate::record::Record;
 use arrayvec::ArrayVec;
 use chem_core::Print;
 use record_versions::{Chains, Finder, Steps};
-use screen_index::{Hint, ScreenIndex, Want};
+use screen_index::{Hint, ScreenIndex, Screened, Want};
 use std::alloc::{AllocError, Global};
 use std::marker::{Brand, Model};
 use std::sync::Arc;
 use std::sync::ledger::{Blank, Ledger};
+
+/// An entry whose print holds what is wanted, with its record and the version before which it is known to be its
+/// identifier's latest.
+pub type Candidate = Screened<Arc<Record>>;
 
 /// What looks at entries. Contracts see all of them.
 pub type EntryFinder<'a> = Finder<'a, Option<Arc<Record>>>;
@@ -27,21 +29,24 @@ type Gone = ArrayVec<(u32, u32), 256>;
 type Leaving = ArrayVec<Option<Arc<Record>>, 32>;
 
 /// Entries by identifier and version, each with the record that its commit left, if it left one. Contracts see the
-/// entries, and the print for which memory was taken.
+/// entries, and the record for which memory was taken.
 #[derive(Drop)]
 pub struct KeptEntries {
     chains: Chains<Option<Arc<Record>>>,
-    index: ScreenIndex,
+    index: ScreenIndex<Arc<Record>>,
 }
 
 impl Model for KeptEntries {
+    ghost use Rattle.std.specs.Prelude.{◌≡◌, IfSome, option_map};
+    ghost use Rattle.std.specs.Arc.{arc_value};
     ghost use Rattle.store_core.specs.Kept.{AreIndexed, KeptTerm};
 
     ghost Value = { KeptTerm };
 
-    ghost view = { λ e. record { chains = e.chains; reserved = e.index.reserved } };
+    ghost view = { λ e. record { chains = e.chains; reserved = option_map (λ p. arc_value p.1) e.index.reserved } };
 
-    ghost invariant = { λ e. AreIndexed e.chains e.index.entries };
+    ghost invariant = { λ e. AreIndexed e.chains e.index.entries
+        × IfSome e.index.reserved (λ p. p.0 ≡ (arc_value p.1).print) };
 }
 
 impl KeptEntries {
@@ -55,22 +60,22 @@ impl KeptEntries {
         }
     }
 
-    /// Takes the memory of one entry more of an identifier, with this print, where it has one.
-    pub fn reserve(&mut self, id: u32, print: Option<&Print>) -> Result<(), AllocError>
-        ensures ok { OnOk result (HasRoom id (option_copied print.entry) self.new) }
+    /// Takes the memory of one entry more of an identifier, with this record, where it has one.
+    pub fn reserve(&mut self, id: u32, entry: Option<&Arc<Record>>) -> Result<(), AllocError>
+        ensures ok { OnOk result (HasRoom id (option_copied entry.entry) self.new) }
         ensures entries { entries self.new.chains ≡ entries self.old.chains }
         ensures chains { (q : ℕ) → chain_of self.new.chains q ≡ chain_of self.old.chains q }
     {
         self.chains.reserve(id)?;
-        match print {
-            Some(print) => self.index.reserve(print),
+        match entry {
+            Some(record) => self.index.reserve(record.print(), Arc::try_clone(record)?),
             None => Ok(()),
         }
     }
 
     /// One entry more, whose version exceeds the identifier's others. It takes no memory.
     pub fn add(&mut self, id: u32, version: u32, entry: Option<Arc<Record>>)
-        requires room { HasRoom id (option_map (λ (r : Shared). (arc_value r).print) entry) self.old }
+        requires room { HasRoom id entry self.old }
         requires later { All (λ k. k.version < version) (chain_of self.old.chains id) }
         requires few { length (entries self.old.chains) < u32.MAX }
         ensures chains { (q : ℕ) → chain_of self.new.chains q ≡ (if q == id
@@ -78,7 +83,10 @@ impl KeptEntries {
             else chain_of self.old.chains q) }
         ensures one_more { length (entries self.new.chains) ≡ length (entries self.old.chains) + 1 }
     {
-        add_print(&mut self.index, id, version, &entry);
+        supersede(&mut self.index, &self.chains, id, version);
+        if entry.is_some() {
+            self.index.add(id, version);
+        }
         self.chains.add(id, version, entry);
     }
 
@@ -93,29 +101,14 @@ impl KeptEntries {
     pub fn latest(&self, id: u32, version: u32) -> Option<(u32, &Option<Arc<Record>>)>
         ensures { IsLatest version (chain_of self.now.chains id) (kept_of result) }
     {
-        self.latest_by::<Brand>(id, version, Blank::new(1))
-    }
-
-    fn latest_by<L: Ledger>(
-        &self,
-        id: u32,
-        version: u32,
-        blank: Blank,
-    ) -> Option<(u32, &Option<Arc<Record>>)>
-        requires name { blank.name ≡ L.name }
-        requires parts { blank.parts ≡ L.parts }
-        requires some { 0 < blank.parts }
-        ensures { IsLatest version (chain_of self.now.chains id) (kept_of result) }
-    {
-        self.chains.at(id, version, &mut Steps::<L>::open(blank))
+        latest_of(&self.chains, id, version)
     }
 
     /// The least identifier from `from` on that has an entry whose print holds what is wanted, whatever the hint says,
-    /// and a version: the identifier's record of this version, if there is one, has such a print.
-    pub fn next(&self, want: &Want<'_>, from: u32, hint: &mut Hint) -> Option<(u32, u32)>
-        ensures id { IsNextId want.now from self.now.chains (option_map (λ p. p.0) result) }
-        ensures version { IfSome result
-            (λ p. All (HoldsAt want.now p.1) (chain_of self.now.chains p.0)) }
+    /// with the first such entry.
+    pub fn next(&self, want: &Want<'_>, from: u32, hint: &mut Hint) -> Option<&Candidate>
+        ensures id { IsNextId want.now from self.now.chains (option_map (λ x. x.id) (option_copied result)) }
+        ensures entry { IfSome (option_copied result) (IsCandidate want.now self.now.chains) }
     {
         self.index.next(want, (from, 0), hint)
     }
@@ -148,33 +141,81 @@ impl KeptEntries {
     }
 }
 
-/// The version and the record of an identifier's latest entry that is not after `version`. It takes one step.
-pub fn look<'a, L: Ledger>(
+/// The record of a candidate's identifier at a version, where its print holds what is wanted. The chain is looked at
+/// only where a later entry may be the latest. It takes one step.
+pub fn record_at<'a, L: Ledger>(
+    candidate: &'a Candidate,
     finder: &mut EntryFinder<'a>,
-    id: u32,
     version: u32,
+    want: &Print,
     steps: &mut Steps<L>,
-) -> Option<(u32, &'a Option<Arc<Record>>)>
-    ensures latest { IsLatest version (chain_of finder.old id) (kept_of result) }
+) -> Option<&'a Arc<Record>>
+    requires { IsCandidate want.now finder.old candidate.now }
+    ensures found { IsFoundAt version want.now (chain_of finder.old candidate.now.id) (option_copied result) }
     ensures finder { finder.new ≡ finder.old }
     ensures steps { steps.new ≡ steps.old + 1 }
 {
-    finder.at(id, version, steps)
+    if candidate.version <= version && version < candidate.until {
+        steps.raise();
+        return Some(&candidate.value);
+    }
+    match finder.at(candidate.id, version, steps) {
+        Some((at, Some(record))) if at == candidate.version || record.print().holds(want) => Some(
+            record,
+        ),
+        _ => None,
+    }
 }
 
-// The print of an entry, where it has a record, into the index.
-fn add_print(index: &mut ScreenIndex, id: u32, version: u32, entry: &Option<Arc<Record>>)
-    requires reserved { IfSome entry.now (λ r. index.old.reserved ≡ Some (arc_value r).print) }
-    requires absent { Lacks (rank id version) index.old.entries }
-    ensures { index.new.entries ≡ with_print id version entry.now index.old.entries }
+// The version and the record of an identifier's latest entry that is not after `version`.
+fn latest_of(
+    chains: &Chains<Option<Arc<Record>>>,
+    id: u32,
+    version: u32,
+) -> Option<(u32, &Option<Arc<Record>>)>
+    ensures { IsLatest version (chain_of chains.now id) (kept_of result) }
 {
-    if let Some(record) = entry {
-        index.add(id, version, record.print());
+    latest_by::<Brand>(chains, id, version, Blank::new(1))
+}
+
+fn latest_by<L: Ledger>(
+    chains: &Chains<Option<Arc<Record>>>,
+    id: u32,
+    version: u32,
+    blank: Blank,
+) -> Option<(u32, &Option<Arc<Record>>)>
+    requires name { blank.name ≡ L.name }
+    requires parts { blank.parts ≡ L.parts }
+    requires some { 0 < blank.parts }
+    ensures { IsLatest version (chain_of chains.now id) (kept_of result) }
+{
+    chains.at(id, version, &mut Steps::<L>::open(blank))
+}
+
+// The pair of an identifier's latest entry is the latest before a version alone.
+fn supersede(
+    index: &mut ScreenIndex<Arc<Record>>,
+    chains: &Chains<Option<Arc<Record>>>,
+    id: u32,
+    version: u32,
+)
+    requires indexed { AreIndexed chains.now index.old.entries }
+    requires later { All (λ k. k.version < version) (chain_of chains.now id) }
+    ensures indexed { AreIndexed chains.now index.new.entries }
+    ensures until { All (λ x. x.id ≡ id → x.until ≤ version) index.new.entries }
+    ensures reserved { index.new.reserved ≡ index.old.reserved }
+{
+    if let Some((latest, _)) = latest_of(chains, id, version) {
+        index.supersede(id, latest, version);
     }
 }
 
 // Takes the entries that are not read at some versions out of the chains, and their prints out of the index.
-fn prune(chains: &mut Chains<Option<Arc<Record>>>, index: &mut ScreenIndex, live: &[u32])
+fn prune(
+    chains: &mut Chains<Option<Arc<Record>>>,
+    index: &mut ScreenIndex<Arc<Record>>,
+    live: &[u32],
+)
     requires { AreIndexed chains.old index.old.entries }
     ensures indexed { AreIndexed chains.new index.new.entries }
     ensures left { (id : ℕ) (k : Kept) → Contains (chain_of chains.new id) k
@@ -182,6 +223,7 @@ fn prune(chains: &mut Chains<Option<Arc<Record>>>, index: &mut ScreenIndex, live
     ensures lists { (es : List Entry) → Lists es chains.old
         → (left : List Entry) × Lists left chains.new }
     ensures fewer { length (entries chains.new) ≤ length (entries chains.old) }
+    ensures reserved { index.new.reserved ≡ index.old.reserved }
 {
     let mut gone = Gone::new();
     let mut leaving = Leaving::new();
@@ -233,13 +275,14 @@ fn place(id: u32, version: u32) -> (u32, u32)
 
 // Puts the place of an entry behind those whose prints are still in the index, and takes these prints out first where
 // there is no room.
-fn leave(index: &mut ScreenIndex, gone: &mut Gone, place: (u32, u32))
+fn leave(index: &mut ScreenIndex<Arc<Record>>, gone: &mut Gone, place: (u32, u32))
     requires rises { Rises gone.old.items }
     requires last { All (λ p. rank p.0 p.1 ≤ rank place.0 place.1) gone.old.items }
     ensures rises { Rises gone.new.items }
     ensures last { All (λ p. rank p.0 p.1 ≤ rank place.0 place.1) gone.new.items }
     ensures left { filter (is_apart gone.new.items) index.new.entries
         ≡ filter (is_apart (place ∷ [])) (filter (is_apart gone.old.items) index.old.entries) }
+    ensures reserved { index.new.reserved ≡ index.old.reserved }
 {
     if !gone.is_full() {
         gone.push(place);

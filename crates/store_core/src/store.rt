@@ -14,14 +14,14 @@ ghost use Rattle.store_machine.specs.declared.machine.TheConstants.{LAST_IDENTIF
 ghost use Rattle.store_core.specs.Based.{IsBefore, IsGiven, based};
 ghost use Rattle.store_core.specs.Calls.{Calls, NotRaised, SameHeld, WornAs, is_compact_worn, is_worn, is_worn_out};
 ghost use Rattle.store_core.specs.Copied.{IsFirstFrom, KeepsCopy, KeepsVersion, Prunes, state_of};
-ghost use Rattle.store_core.specs.Kept.{HasPrint, HoldsAt, kept_of, record_of, status_in};
+ghost use Rattle.store_core.specs.Kept.{status_in};
 ghost use Rattle.store_core.specs.Prepared.{IsPrepared, IsWhy};
 ghost use Rattle.store_core.specs.Records.{IsRecord, Shared, founds};
 ghost use Rattle.store_core.specs.Replies.{change_of, compact_calls, fetch_calls};
 ghost use Rattle.store_core.specs.Steps.{AreSteps};
 ghost use Rattle.store_core.specs.Stored.{HoldsPin, IsAt, Served, StandsFor, Stretches, alone, empty, served};
 
-use crate::kept::{KeptEntries, look};
+use crate::kept::{KeptEntries, record_at};
 use crate::laws::laws;
 use crate::page::{MOST_RECORDS, Page};
 use crate::record::Record;
@@ -136,7 +136,7 @@ impl Store {
         ensures err { OnErr result ((s : Served) → StandsFor self.old s → StandsFor self.new s) }
         ensures version { self.new.version ≡ self.old.version }
     {
-        self.kept.reserve(id, own_print(&entry))?;
+        self.kept.reserve(id, own_record(&entry))?;
         let (live, withdrawn) = one_more(&entry, self.live, self.withdrawn);
         self.live = live;
         self.withdrawn = withdrawn;
@@ -177,7 +177,7 @@ impl Store {
         if self.version >= self.limit {
             return Err(CommitFault::Full);
         }
-        self.kept.reserve(id, change.print())?;
+        self.kept.reserve(id, change.entry())?;
         Ok(())
     }
 
@@ -285,16 +285,15 @@ impl Store {
         let mut hint = Hint::default();
         let mut finder = self.kept.finder(from);
         let mut waiting = Waiting::new();
-        while let Some((id, version)) = self.kept.next(&wanted, place, &mut hint) {
-            let found = look(&mut finder, id, pin.version, steps);
-            if let Some(record) = screened(found, version, want) {
+        while let Some(next) = self.kept.next(&wanted, place, &mut hint) {
+            if let Some(record) = record_at(next, &mut finder, pin.version, want, steps) {
                 if page.records().len() + waiting.len() >= limit as usize {
                     waiting.share(page)?;
                     return Ok(false);
                 }
                 waiting.gather(record, page)?;
             }
-            place = id + 1;
+            place = next.id + 1;
         }
         waiting.share(page)?;
         Ok(true)
@@ -411,14 +410,14 @@ impl Service for Store {
     ghost same = { same };
 }
 
-// The print of a record, where there is one. It is a sound one.
-fn own_print(entry: &Option<Arc<Record>>) -> Option<&Print>
-    ensures print { option_copied result ≡ option_map (λ (r : Shared). (arc_value r).print) entry.now }
+// The record, where there is one. It is a sound one.
+fn own_record(entry: &Option<Arc<Record>>) -> Option<&Arc<Record>>
+    ensures record { option_copied result ≡ entry.now }
     ensures sound { IfSome entry.now (λ r. IsRecord (arc_value r)) }
 {
     let record = entry.as_ref()?;
     let _ = record.id();
-    Some(record.print())
+    Some(record)
 }
 
 // Live and withdrawn identifiers with one more, which is live where it has a record.
@@ -431,24 +430,6 @@ fn one_more(entry: &Option<Arc<Record>>, live: u32, withdrawn: u32) -> (u32, u32
     match entry {
         Some(_) => (live + 1, withdrawn),
         None => (live, withdrawn + 1),
-    }
-}
-
-// The record that was found, where its print holds what is wanted. The print of an entry of this version does, and is
-// not read.
-fn screened<'a>(
-    found: Option<(u32, &'a Option<Arc<Record>>)>,
-    version: u32,
-    want: &Print,
-) -> Option<&'a Arc<Record>>
-    requires { IfSome (kept_of found) (HoldsAt want.now version) }
-    ensures { MatchOption result
-        (¬ HasPrint want.now (record_of (kept_of found.entry)))
-        (λ r. (record_of (kept_of found.entry) ≡ Some r.now) × HasPrint want.now (Some r.now)) }
-{
-    match found {
-        Some((at, Some(record))) if at == version || record.print().holds(want) => Some(record),
-        _ => None,
     }
 }
 

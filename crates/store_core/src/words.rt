@@ -1,13 +1,10 @@
 //! What is asked of a service, and what it answers.
 ghost use Rattle.std.specs.Prelude.{◌≡◌, ◌+◌, ◌<◌, ◌^◌, IfErr, IfOk, IfSome, MatchResult, None, option_copied, option_map, ℕ};
-ghost use Rattle.std.specs.Arc.{arc_value};
 ghost use Rattle.store_machine.specs.History.{id_of};
 ghost use Rattle.store_core.specs.Kept.{IsEntryOf, kept_of, status_of};
-ghost use Rattle.store_core.specs.Records.{Shared};
 ghost use Rattle.store_core.specs.Replies.{Counts, IsLookOf, IsRefusal, IsSoundChange, MayCount, change_of, left_by, looked, refusal_by};
 
 use crate::record::Record;
-use chem_core::Print;
 use std::alloc::AllocError;
 use std::sync::Arc;
 use thiserror::Error;
@@ -32,17 +29,17 @@ impl Change {
         }
     }
 
-    // The print of the record that it leaves.
-    pub(crate) fn print(&self) -> Option<&Print>
-        ensures { option_copied result ≡ option_map (λ (r : Shared). (arc_value r).print) (left_by self.now) }
+    // The record that it leaves.
+    pub(crate) fn entry(&self) -> Option<&Arc<Record>>
+        ensures { option_copied result ≡ left_by self.now }
     {
         match self {
-            Change::Register(record) | Change::Revise(record) => Some(record.print()),
+            Change::Register(record) | Change::Revise(record) => Some(record),
             Change::Withdraw(_) => None,
         }
     }
 
-    // The record that it leaves.
+    // The same, for good.
     pub(crate) fn into_entry(self) -> Option<Arc<Record>>
         ensures { result ≡ left_by self }
     {

@@ -3,7 +3,7 @@ use mathlib.Core.List.{reverse}
 use Rattle.screen_index.proofs.block.move_tail.Given as goal
 
 abbrev pub invariant-loop-entries : goal.invariant-loop-entries
-invariant-loop-entries l = record {
+invariant-loop-entries g l = record {
   whole : l.entries.items ++ reverse l.upper.items ≡ l.fn.entries.items;
   within : l.index ≤ length l.entries.items;
   room : length l.entries.items + length l.upper.items ≤ l.index + vec_capacity l.upper;
@@ -12,4 +12,4 @@ invariant-loop-entries l = record {
 }
 
 abbrev pub decreases-loop-entries : goal.decreases-loop-entries
-decreases-loop-entries l = vec_len l.entries
+decreases-loop-entries g l = vec_len l.entries

@@ -5,7 +5,7 @@ use Rattle.screen_index.proofs.Blocks.{before-place, behind-place, blocks-parted
 use Rattle.screen_index.proofs.index.block_of.Goals as goal
 
 pub returns-clause-before : goal.returns-clause-before
-returns-clause-before c =
+returns-clause-before g c =
     let r = rank c.args.place.0 c.args.place.1 in
     let bs = c.args.blocks.now.items in
     let same = c.as_slice.ensures.value in
@@ -17,7 +17,7 @@ returns-clause-before c =
     (λ k d low high. ap (λ l. ends_before r (get_or l k d)) (sym same) ∙ p.0 k d low high)
 
 pub returns-clause-behind : goal.returns-clause-behind
-returns-clause-behind c =
+returns-clause-behind g c =
     let r = rank c.args.place.0 c.args.place.1 in
     let bs = c.args.blocks.now.items in
     let same = c.as_slice.ensures.value in

@@ -5,7 +5,7 @@ use Rattle.screen_index.proofs.Places.{apart-in-turn, none-apart, to-the-end}
 use Rattle.screen_index.proofs.index.drop_all.Goals as goal
 
 pub loop-done-preserved : goal.loop-done-preserved
-loop-done-preserved c =
+loop-done-preserved g c =
     let ps = c.args.places.now in
     let done = c.loop-done.done in
     let left = drop done ps in
@@ -36,7 +36,7 @@ loop-done-preserved c =
     }
 
 pub returns-clause-entries : goal.returns-clause-entries
-returns-clause-entries c =
+returns-clause-entries g c =
     let ps = c.args.places.now in
     let now = joined c.loop-done.blocks.items in
     let end : length ps ≤ c.loop-done.done = let f = c.loop-done-test.false in omega (arith, f) in

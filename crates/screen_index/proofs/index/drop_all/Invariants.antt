@@ -3,7 +3,7 @@ use Rattle.screen_index.specs.Pairs.{AreBlocks, is_apart, joined}
 use Rattle.screen_index.proofs.index.drop_all.Given as goal
 
 abbrev pub invariant-loop-done : goal.invariant-loop-done
-invariant-loop-done l = record {
+invariant-loop-done g l = record {
   within : l.done ≤ length l.places;
   entries : filter (is_apart (drop l.done l.places)) (joined l.blocks.items)
       ≡ filter (is_apart l.places) (joined l.fn.blocks.items);
@@ -13,4 +13,4 @@ invariant-loop-done l = record {
 }
 
 abbrev pub decreases-loop-done : goal.decreases-loop-done
-decreases-loop-done l = length l.places - l.done
+decreases-loop-done g l = length l.places - l.done

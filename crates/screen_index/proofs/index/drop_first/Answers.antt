@@ -7,14 +7,14 @@ use Rattle.screen_index.proofs.Places.{rises-take, some-ascend, to-the-end}
 use Rattle.screen_index.proofs.index.drop_first.Goals as goal
 
 pub returns-then-index-len-clause-entries : goal.returns-then-index-len-clause-entries
-returns-then-index-len-clause-entries c =
+returns-then-index-len-clause-entries g c =
     let bs = c.args.blocks.now.items in
     let e = c.if-index-len.true in
     drop-none c.args.places.now c.block_of-index.result bs (0, 0) c.requires.rises
     (omega (arith, e, c.args.blocks.now.ok.0, c.len.ensures)) c.block_of-index.ensures.before
 
 pub drop_all-requires : goal.drop_all-requires
-drop_all-requires c =
+drop_all-requires g c =
     let ps = c.args.places.now in
     let count = c.reach-count.result in
     let size = length-drop 1 ps in
@@ -23,7 +23,7 @@ drop_all-requires c =
     c.requires.rises
 
 pub returns-then-len-eq0-clause-entries : goal.returns-then-len-eq0-clause-entries
-returns-then-len-eq0-clause-entries c =
+returns-then-len-eq0-clause-entries g c =
     let ps = c.args.places.now in
     let bs = c.args.blocks.now.items in
     let i = c.block_of-index.result in
@@ -39,7 +39,7 @@ returns-then-len-eq0-clause-entries c =
     ap joined c.remove-empty.ensures.items ∙ (joined-emptied bs i new none ∙ taken)
 
 pub returns-then-len-eq0-clause-blocks : goal.returns-then-len-eq0-clause-blocks
-returns-then-len-eq0-clause-blocks c =
+returns-then-len-eq0-clause-blocks g c =
     let ps = c.args.places.now in
     let bs = c.args.blocks.now.items in
     let i = c.block_of-index.result in
@@ -55,12 +55,12 @@ returns-then-len-eq0-clause-blocks c =
     let entries = ap joined c.remove-empty.ensures.items ∙ (joined-emptied bs i new none ∙ taken) in (
       subst (Ascend 0) (sym entries)
           (some-ascend (is_apart (take (1 + c.reach-count.result) ps)) 0 (joined bs) c.requires.blocks.0),
-      subst (All (λ (l : List Screened). 0 < length l)) (sym (c.remove-empty.ensures.items ∙ removed-is bs i new))
-          (blocks-removed bs i c.requires.blocks.1),
+      subst (All (λ (l : List (Screened g.row.V.Denot)). 0 < length l))
+          (sym (c.remove-empty.ensures.items ∙ removed-is bs i new)) (blocks-removed bs i c.requires.blocks.1),
     )
 
 pub join_next-requires-clause-blocks : goal.join_next-requires-clause-blocks
-join_next-requires-clause-blocks c =
+join_next-requires-clause-blocks g c =
     let ps = c.args.places.now in
     let bs = c.args.blocks.now.items in
     let i = c.block_of-index.result in
@@ -79,7 +79,7 @@ join_next-requires-clause-blocks c =
     )
 
 pub returns-then-index-gt0-clause-entries : goal.returns-then-index-gt0-clause-entries
-returns-then-index-gt0-clause-entries c =
+returns-then-index-gt0-clause-entries g c =
     let ps = c.args.places.now in
     let bs = c.args.blocks.now.items in
     let i = c.block_of-index.result in
@@ -94,7 +94,7 @@ returns-then-index-gt0-clause-entries c =
     c.join_next-then-index-gt0.ensures.entries ∙ (c.join_next.ensures.entries ∙ (joined-set bs i new less ∙ taken))
 
 pub returns-else-index-gt0-clause-entries : goal.returns-else-index-gt0-clause-entries
-returns-else-index-gt0-clause-entries c =
+returns-else-index-gt0-clause-entries g c =
     let ps = c.args.places.now in
     let bs = c.args.blocks.now.items in
     let i = c.block_of-index.result in

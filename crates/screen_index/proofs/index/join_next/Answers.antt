@@ -7,7 +7,7 @@ use Rattle.screen_index.proofs.Blocks.{blocks-removed, blocks-set, joined-merged
 use Rattle.screen_index.proofs.index.join_next.Goals as goal
 
 pub returns-clause-entries : goal.returns-clause-entries
-returns-clause-entries c =
+returns-clause-entries g c =
     let bs = c.args.blocks.now.items in
     let i = c.args.index in
     let b = c.index_mut-block.result.now in
@@ -25,7 +25,7 @@ returns-clause-entries c =
     ∙ joined-merged bs i b less)
 
 pub returns-clause-blocks : goal.returns-clause-blocks
-returns-clause-blocks c =
+returns-clause-blocks g c =
     let bs = c.args.blocks.now.items in
     let i = c.args.index in
     let b = c.index_mut-block.result.now in
@@ -44,7 +44,8 @@ returns-clause-blocks c =
     let some = c.requires.blocks.1 i b (omega (arith, less)) in (
       subst (Ascend 0) (sym entries) c.requires.blocks.0,
       blocks-set c.remove-next.new.self.items i new
-          (subst (All (λ (l : List Screened). 0 < length l)) (sym items) (blocks-removed bs (suc i) c.requires.blocks.1))
+          (subst (All (λ (l : List (Screened g.row.V.Denot)). 0 < length l)) (sym items)
+          (blocks-removed bs (suc i) c.requires.blocks.1))
           (omega (
             arith,
             some,

@@ -8,7 +8,7 @@ use Rattle.screen_index.proofs.index.put.Goals as goal
 
 pub insert-requires-then-len-lt-ROOM-clause-ascending :
     goal.insert-requires-then-len-lt-ROOM-clause-ascending
-insert-requires-then-len-lt-ROOM-clause-ascending c =
+insert-requires-then-len-lt-ROOM-clause-ascending g c =
     let bs = c.args.blocks.now.items in
     let i = c.min-place.result in
     let b = c.index_mut-block.result.now in
@@ -21,7 +21,7 @@ insert-requires-then-len-lt-ROOM-clause-ascending c =
 
 pub insert-requires-then-len-lt-ROOM-clause-absent :
     goal.insert-requires-then-len-lt-ROOM-clause-absent
-insert-requires-then-len-lt-ROOM-clause-absent c =
+insert-requires-then-len-lt-ROOM-clause-absent g c =
     let bs = c.args.blocks.now.items in
     let i = c.min-place.result in
     let b = c.index_mut-block.result.now in
@@ -34,7 +34,7 @@ insert-requires-then-len-lt-ROOM-clause-absent c =
 
 pub returns-then-len-lt-ROOM-clause-entries :
     goal.returns-then-len-lt-ROOM-clause-entries
-returns-then-len-lt-ROOM-clause-entries c =
+returns-then-len-lt-ROOM-clause-entries g c =
     let bs = c.args.blocks.now.items in
     let i = c.min-place.result in
     let b = c.index_mut-block.result.now in
@@ -48,7 +48,7 @@ returns-then-len-lt-ROOM-clause-entries c =
 
 pub returns-then-len-lt-ROOM-clause-blocks :
     goal.returns-then-len-lt-ROOM-clause-blocks
-returns-then-len-lt-ROOM-clause-blocks c =
+returns-then-len-lt-ROOM-clause-blocks g c =
     let bs = c.args.blocks.now.items in
     let i = c.min-place.result in
     let b = c.index_mut-block.result.now in
@@ -58,14 +58,16 @@ returns-then-len-lt-ROOM-clause-blocks c =
     c.block_of.ensures.within (omega (arith, size)) last c.block_of.ensures.before c.block_of.ensures.behind in
     let is = c.index_mut-block.ensures.value in
     let new = c.insert-then-len-lt-ROOM.new.self in (
-      subst (Ascend 0) (sym (joined-set bs i new at.less ∙ put-one c.args.entry bs i b new at is c.insert-then-len-lt-ROOM.ensures))
+      subst (Ascend 0)
+          (sym (joined-set bs i new at.less
+          ∙ put-one c.args.entry bs i b new at is c.insert-then-len-lt-ROOM.ensures))
           (put-ascends 0 c.args.entry (joined bs) (omega arith) c.requires.blocks.0 c.requires.absent),
       blocks-set bs i new c.requires.blocks.1
           (subst (λ l. 0 < length l) (sym c.insert-then-len-lt-ROOM.ensures) (put-some c.args.entry b)),
     )
 
 pub insert_split-requires-clause-ascending : goal.insert_split-requires-clause-ascending
-insert_split-requires-clause-ascending c =
+insert_split-requires-clause-ascending g c =
     let bs = c.args.blocks.now.items in
     let i = c.min-place.result in
     let b = c.index_mut-block.result.now in
@@ -77,7 +79,7 @@ insert_split-requires-clause-ascending c =
     ascends-here bs i b c.requires.blocks.0 at.less is
 
 pub insert_split-requires-clause-absent : goal.insert_split-requires-clause-absent
-insert_split-requires-clause-absent c =
+insert_split-requires-clause-absent g c =
     let bs = c.args.blocks.now.items in
     let i = c.min-place.result in
     let b = c.index_mut-block.result.now in
@@ -89,7 +91,7 @@ insert_split-requires-clause-absent c =
     lacks-block (rank_of c.args.entry) bs i b at.less is c.requires.absent
 
 pub returns-clause-entries : goal.returns-clause-entries
-returns-clause-entries c =
+returns-clause-entries g c =
     let bs = c.args.blocks.now.items in
     let i = c.min-place.result in
     let b = c.index_mut-block.result.now in
@@ -106,7 +108,7 @@ returns-clause-entries c =
     ∙ put-one c.args.entry bs i b (lower ++ upper) at is c.insert_split.ensures.whole))
 
 pub returns-clause-blocks : goal.returns-clause-blocks
-returns-clause-blocks c =
+returns-clause-blocks g c =
     let bs = c.args.blocks.now.items in
     let i = c.min-place.result in
     let b = c.index_mut-block.result.now in
@@ -123,7 +125,7 @@ returns-clause-blocks c =
     ∙ put-one c.args.entry bs i b (lower ++ upper) at is c.insert_split.ensures.whole)) in (
       subst (Ascend 0) (sym entries)
           (put-ascends 0 c.args.entry (joined bs) (omega arith) c.requires.blocks.0 c.requires.absent),
-      subst (All (λ (l : List Screened). 0 < length l)) (sym c.in-Ok.ensures.items)
+      subst (All (λ (l : List (Screened g.row.V.Denot)). 0 < length l)) (sym c.in-Ok.ensures.items)
           (blocks-split bs i (i + 1) lower upper c.requires.blocks.1 c.insert_split.ensures.some
           c.insert_split.ensures.upper_some),
     )

@@ -1,4 +1,4 @@
-use Rattle.std.proofs.Common.{◌≡◌, ◌∙◌, ◌<◌, ◌≤◌, [], ◌∷◌, All, ap, arith, filter, subst, sym, ℕ}
+use Rattle.std.proofs.Common.{◌≡◌, ◌∙◌, ◌<◌, ◌≤◌, [], ◌∷◌, All, ap, arith, filter, refl, subst, sym, ℕ}
 use Rattle.screen_index.specs.Pairs.{Rises, is_apart, rank}
 use Rattle.store_core.specs.Kept.{AreIndexed}
 use Rattle.store_core.proofs.Dead.{Pruning, prune-goes-on, pruned, pruning-begins}
@@ -16,6 +16,7 @@ loop-id-init c =
       fits = omega arith;
       indexed = subst (λ g. AreIndexed old (filter (is_apart g) xs)) none
           (subst (AreIndexed old) (sym (all-stay xs)) c.requires);
+      reserved = refl;
     }
 
 pub take-requires : goal.take-requires
@@ -43,7 +44,14 @@ loop-id-preserved c =
       indexed = subst (AreIndexed next)
           (sym (c.leave.ensures.left ∙ ap (λ p. filter (is_apart (p ∷ [])) left) same))
           (indexed-fewer now next id version takes left few c.loop-id.invariant.indexed);
+      reserved = c.leave.ensures.reserved ∙ c.loop-id.invariant.reserved;
     }
+
+pub returns-clause-indexed : goal.returns-clause-indexed
+returns-clause-indexed c =
+    subst (AreIndexed c.loop-id.chains)
+    (sym (c.drop_all.ensures.entries
+    ∙ ap (λ l. filter (is_apart l) c.loop-id.index.entries) c.as_slice.ensures.value)) c.loop-id.invariant.indexed
 
 pub returns-clause-left : goal.returns-clause-left
 returns-clause-left c =

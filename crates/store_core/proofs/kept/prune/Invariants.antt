@@ -1,4 +1,4 @@
-use Rattle.std.proofs.Common.{◌<◌, ◌≤◌, All, filter, length}
+use Rattle.std.proofs.Common.{◌≡◌, ◌<◌, ◌≤◌, All, filter, length}
 use Rattle.record_versions.specs.Entries.{entries}
 use Rattle.screen_index.specs.Pairs.{Rises, is_apart, rank}
 use Rattle.store_core.specs.Kept.{AreIndexed}
@@ -12,6 +12,7 @@ invariant-loop-id l = record {
   last : All (λ p. rank p.0 p.1 ≤ rank l.from.0 l.from.1) l.gone.items;
   fits : l.from.1 < 4294967296;
   indexed : AreIndexed l.chains (filter (is_apart l.gone.items) l.index.entries);
+  reserved : l.index.reserved ≡ l.fn.index.reserved;
 }
 
 abbrev pub decreases-loop-id : goal.decreases-loop-id

@@ -6,7 +6,7 @@ use Rattle.screen_index.proofs.Places.{parted}
 use Rattle.screen_index.proofs.block.Block.count_before.Goals as goal
 
 pub returns-clause-before : goal.returns-clause-before
-returns-clause-before c =
+returns-clause-before g c =
     let r = rank c.args.place.0 c.args.place.1 in
     let same = c.as_slice.ensures.value ∙ c.self.view_is in
     let p = IsPartitionPoint-from_clause (λ x. nat_lt (rank_of x) r) c.as_slice.result.now
@@ -18,7 +18,7 @@ returns-clause-before c =
     grind (arith, nat_tests, t)
 
 pub returns-clause-behind : goal.returns-clause-behind
-returns-clause-behind c =
+returns-clause-behind g c =
     let r = rank c.args.place.0 c.args.place.1 in
     let same = c.as_slice.ensures.value ∙ c.self.view_is in
     let p = IsPartitionPoint-from_clause (λ x. nat_lt (rank_of x) r) c.as_slice.result.now

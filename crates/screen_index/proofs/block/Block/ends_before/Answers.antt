@@ -4,7 +4,7 @@ use Rattle.screen_index.proofs.Places.{last-decides}
 use Rattle.screen_index.proofs.block.Block.ends_before.Goals as goal
 
 pub returns-else-len-eq0 : goal.returns-else-len-eq0
-returns-else-len-eq0 c =
+returns-else-len-eq0 g c =
     let r = rank c.args.place.0 c.args.place.1 in
     c.is_before.ensures
     ∙ (ap (λ y. nat_lt (rank_of y) r) c.index.ensures

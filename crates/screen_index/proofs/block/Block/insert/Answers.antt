@@ -4,7 +4,7 @@ use Rattle.screen_index.proofs.Places.{put-here}
 use Rattle.screen_index.proofs.block.Block.insert.Goals as goal
 
 pub returns : goal.returns
-returns c =
+returns g c =
     let place = c.count_before-place.result in
     c.in-Ok.ensures.items
     ∙ (ap (λ l. insert l place c.args.entry) c.self.view_is

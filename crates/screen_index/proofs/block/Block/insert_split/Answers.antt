@@ -4,25 +4,25 @@ use Rattle.screen_index.proofs.Places.{apart, ascend-left, ascend-right, lacks-r
 use Rattle.screen_index.proofs.block.Block.insert_split.Goals as goal
 
 pub count_before-requires-2 : goal.count_before-requires-2
-count_before-requires-2 c =
+count_before-requires-2 g c =
     ascend-right 0 c.split.new.self c.split.new.upper (subst (Ascend 0) (sym c.split.ensures.whole) c.requires.ascending)
 
 pub insert-requires-clause-ascending : goal.insert-requires-clause-ascending
-insert-requires-clause-ascending c =
+insert-requires-clause-ascending g c =
     ascend-left 0 c.split.new.self c.split.new.upper (subst (Ascend 0) (sym c.split.ensures.whole) c.requires.ascending)
 
 pub insert-requires-else-count_before-eq0-clause-ascending :
     goal.insert-requires-else-count_before-eq0-clause-ascending
-insert-requires-else-count_before-eq0-clause-ascending c =
+insert-requires-else-count_before-eq0-clause-ascending g c =
     ascend-right 0 c.split.new.self c.split.new.upper (subst (Ascend 0) (sym c.split.ensures.whole) c.requires.ascending)
 
 pub insert-requires-else-count_before-eq0-clause-absent : goal.insert-requires-else-count_before-eq0-clause-absent
-insert-requires-else-count_before-eq0-clause-absent c =
+insert-requires-else-count_before-eq0-clause-absent g c =
     lacks-right (rank_of c.args.entry) c.split.new.self c.split.new.upper
     (subst (Lacks (rank_of c.args.entry)) (sym c.split.ensures.whole) c.requires.absent)
 
 pub returns-then-count_before-eq0-clause-whole : goal.returns-then-count_before-eq0-clause-whole
-returns-then-count_before-eq0-clause-whole c =
+returns-then-count_before-eq0-clause-whole g c =
     let lower = c.split.new.self in
     let upper = c.split.new.upper in
     let lacks = lacks-right (rank_of c.args.entry) lower upper
@@ -35,7 +35,7 @@ returns-then-count_before-eq0-clause-whole c =
     ∙ (sym (put-before c.args.entry lower upper behind) ∙ ap (put_in c.args.entry) c.split.ensures.whole)
 
 pub returns-else-count_before-eq0-clause-whole : goal.returns-else-count_before-eq0-clause-whole
-returns-else-count_before-eq0-clause-whole c =
+returns-else-count_before-eq0-clause-whole g c =
     let lower = c.split.new.self in
     let upper = c.split.new.upper in
     let up = subst (Ascend 0) (sym c.split.ensures.whole) c.requires.ascending in
@@ -48,5 +48,5 @@ returns-else-count_before-eq0-clause-whole c =
     ∙ (sym (put-behind c.args.entry lower upper before) ∙ ap (put_in c.args.entry) c.split.ensures.whole)
 
 pub returns-else-count_before-eq0-clause-upper_some : goal.returns-else-count_before-eq0-clause-upper_some
-returns-else-count_before-eq0-clause-upper_some c =
+returns-else-count_before-eq0-clause-upper_some g c =
     subst (λ l. 0 < length l) (sym c.insert-else-count_before-eq0.ensures) (put-some c.args.entry c.split.new.upper)

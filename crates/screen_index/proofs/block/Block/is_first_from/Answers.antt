@@ -4,7 +4,7 @@ use Rattle.screen_index.proofs.Places.{from-late, up-to-early}
 use Rattle.screen_index.proofs.block.Block.is_first_from.Goals as goal
 
 pub returns-then-index-eq0-clause-behind : goal.returns-then-index-eq0-clause-behind
-returns-then-index-eq0-clause-behind c =
+returns-then-index-eq0-clause-behind g c =
     let r = rank c.args.place.0 c.args.place.1 in
     let i = c.args.index in
     let now = c.args.self.now in
@@ -14,7 +14,7 @@ returns-then-index-eq0-clause-behind c =
     (sym c.is_before.ensures ∙ c.if-is_before.false)
 
 pub returns-else-index-eq0-clause-before : goal.returns-else-index-eq0-clause-before
-returns-else-index-eq0-clause-before c =
+returns-else-index-eq0-clause-before g c =
     let r = rank c.args.place.0 c.args.place.1 in
     let i = c.args.index in
     let now = c.args.self.now in
@@ -25,7 +25,7 @@ returns-else-index-eq0-clause-before c =
     (sym c.is_before-else-index-eq0.ensures ∙ t)
 
 pub returns-else-index-eq0-clause-behind : goal.returns-else-index-eq0-clause-behind
-returns-else-index-eq0-clause-behind c =
+returns-else-index-eq0-clause-behind g c =
     let r = rank c.args.place.0 c.args.place.1 in
     let i = c.args.index in
     let now = c.args.self.now in

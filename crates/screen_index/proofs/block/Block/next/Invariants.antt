@@ -3,4 +3,4 @@ use Rattle.screen_index.specs.Pairs.{IsWanted, rank}
 use Rattle.screen_index.proofs.block.Block.next.Given as goal
 
 abbrev pub invariant-loop-place : goal.invariant-loop-place
-invariant-loop-place l = AllWithin (λ x. ¬ IsWanted l.want (rank l.fn.from.0 l.fn.from.1) x) l.self 0 l.place
+invariant-loop-place g l = AllWithin (λ x. ¬ IsWanted l.want (rank l.fn.from.0 l.fn.from.1) x) l.self 0 l.place

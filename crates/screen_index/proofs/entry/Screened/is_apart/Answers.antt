@@ -6,7 +6,7 @@ use Rattle.screen_index.proofs.Places.{apart-at, apart-decided, places-parted}
 use Rattle.screen_index.proofs.entry.Screened.is_apart.Goals as goal
 
 pub returns-then-place-places : goal.returns-then-place-places
-returns-then-place-places c =
+returns-then-place-places g c =
     let ps = c.args.places.now in
     let x = c.args.self.now in
     let r = rank_of x in
@@ -22,7 +22,7 @@ returns-then-place-places c =
     (λ d less. absurd (omega (arith, less, e))))
 
 pub returns-else-place-places : goal.returns-else-place-places
-returns-else-place-places c =
+returns-else-place-places g c =
     let ps = c.args.places.now in
     let x = c.args.self.now in
     let r = rank_of x in

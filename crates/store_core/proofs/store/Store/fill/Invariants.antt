@@ -10,8 +10,8 @@ use Rattle.store_core.specs.Waiting.{values}
 use Rattle.store_core.proofs.Stepped.{SoFar}
 use Rattle.store_core.proofs.store.Store.fill.Given as goal
 
-abbrev pub invariant-loop-id : goal.invariant-loop-id
-invariant-loop-id g l = record {
+abbrev pub invariant-loop-next : goal.invariant-loop-next
+invariant-loop-next g l = record {
   later : l.from ≤ l.place;
   finder : l.finder ≡ l.self.kept.chains;
   goes_on : (s : State) → StandsFor l.self (served s) → (all : List Found)
@@ -23,5 +23,5 @@ invariant-loop-id g l = record {
   room : l.page.room ≡ l.fn.page.room;
 }
 
-abbrev pub decreases-loop-id : goal.decreases-loop-id
-decreases-loop-id g l = 4294967296 - l.place
+abbrev pub decreases-loop-next : goal.decreases-loop-next
+decreases-loop-next g l = 4294967296 - l.place

@@ -54,5 +54,5 @@ returns-clause-prepared c =
           (now-is law.read law.states _ s change (kept_of c.latest.result) was
           (subst (λ i. IsLatest c.self.inside.version (chain_of c.self.inside.kept.chains i) (kept_of c.latest.result))
           c.id-id.ensures.id c.latest.ensures) ∙ c.in_ok-check.ensures) c.if-self.false;
-      room = rw (sym c.id-id.ensures.id, sym c.print.ensures) c.in_ok-reserve.ensures.ok;
+      room = rw (sym c.id-id.ensures.id, sym c.entry.ensures) c.in_ok-reserve.ensures.ok;
     }

@@ -41,7 +41,7 @@ invariant_of-self-2 c =
             in_range = c.requires.in_range;
             since = c.requires.since;
             until = subst (λ (t : StoreTerm). c.args.made_at ≤ t.version) (sym c.self.view_is) c.requires.until;
-            entry = own-entry c.args.id c.args.entry c.own_print.ensures.sound c.requires.own;
+            entry = own-entry c.args.id c.args.entry c.own_record.ensures.sound c.requires.own;
           }),
     )
 
@@ -60,5 +60,5 @@ returns-clause-given c =
       in_range = c.requires.in_range;
       since = c.requires.since;
       until = subst (λ (t : StoreTerm). c.args.made_at ≤ t.version) (sym c.self.view_is) c.requires.until;
-      entry = own-entry c.args.id c.args.entry c.own_print.ensures.sound c.requires.own;
+      entry = own-entry c.args.id c.args.entry c.own_record.ensures.sound c.requires.own;
     }))
