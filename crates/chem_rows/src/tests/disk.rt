@@ -1,6 +1,6 @@
 //! `init` and `run` over disks in memory.
 use super::{ONE_COMMIT, PLAIN, call, call_on, disk_of, has_left, put_by, run, run_leaves};
-use disk_edge::{Disk, FileDisk, MemDisk};
+use disk_edge::{FileDisk, MemDisk};
 use std::alloc::{AllocError, Global};
 use std::fs;
 use std::sync::Wait;
@@ -193,28 +193,20 @@ fn each_call_of_the_disk_fails_in_turn(rt: HostRuntime) -> Result<(), Fail> {
     Ok(())
 }
 
-// A disk without bytes, of which a crash may leave some, since a write of it failed.
-fn torn(alloc: Global) -> MemDisk {
-    let mut disk = MemDisk::new(alloc);
-    disk.fail_once(1);
-    let _ = disk.write_at(0, b"ZCHEMDB2\x01\0\0\0\0\0\0\0\0\0\0\0");
-    disk
-}
-
 #[test]
-fn no_crash_leaves_a_byte_on_the_second_disk_of_a_new_store(rt: HostRuntime) -> Result<(), Fail> {
+fn a_store_is_not_made_where_its_second_disk_cannot_be_synced(rt: HostRuntime) -> Result<(), Fail> {
     let alloc = rt.alloc();
-    let mut might = false;
-    for choice in 0..6u32 {
-        might = might || !torn(alloc).image(choice).bytes().is_empty();
-        let disks = (MemDisk::new(alloc), torn(alloc));
+    // its length is asked, and then it is synced
+    for call in 1..=2u64 {
+        let mut second = MemDisk::new(alloc);
+        second.fail_once(call);
+        let disks = (MemDisk::new(alloc), second);
         let made = call_on(&rt, alloc, &["init", "f"], b"", PLAIN, disks)?;
         assert!(rt;
-            made.status == 0 && made.b.image(choice).bytes().is_empty(),
-            "image {choice}"
+            made.status == 5 && has_left(&made, "", (b"", b"")),
+            "at {call}"
         );
     }
-    assert!(rt; might);
     Ok(())
 }
 
