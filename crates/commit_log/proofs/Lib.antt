@@ -3,4 +3,4 @@ mod BaseTaken
 mod OneBase
 mod OneEntry
 mod OneLog
-mod Taken
+pub mod Taken

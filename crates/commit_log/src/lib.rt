@@ -16,6 +16,6 @@ pub use base::{BaseEntry, BaseState};
 pub use base_log::read_base;
 pub use change::{Commit, Format, Wire};
 pub use laws::{a_base_reads_one_way, a_log_reads_one_way, a_written_log_is_read};
-pub use log::read_all;
+pub use log::{next_commit, read_all};
 pub use reading::{decode, decode_base};
 pub use writing::{encode, encode_base, encode_register, encode_revise, encode_withdraw};

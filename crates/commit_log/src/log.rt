@@ -55,8 +55,9 @@ pub fn read_all<D: Disk>(alloc: Global, journal: &mut Journal<D>) -> Result<Vec<
     }
 }
 
-// The commit at which the journal stands, which it passes. `None` at a gate that is not open.
-fn next_commit<D: Disk>(
+/// The commit at which a journal stands, which it passes. `None` at a gate that is not open: the journal may then be
+/// appended to. After a fault, want of memory too, it stands at some record, and is loaded anew.
+pub fn next_commit<D: Disk>(
     alloc: Global,
     journal: &mut Journal<D>,
 ) -> Result<Option<Commit>, LoadFault>

@@ -22,6 +22,7 @@ mod Opened
 mod Owners
 mod Payloads
 mod Pruned
+mod Reading
 mod Ready
 mod Refused
 mod Replayed

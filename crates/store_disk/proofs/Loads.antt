@@ -28,10 +28,9 @@ use Rattle.store_disk.proofs.Logged.{base-near, end-near, lacks-structure, may-n
 use Rattle.store_disk.proofs.Payloads.{same-bases, same-payloads}
 
 -- by what was passed
-pub as-read : (P : ℕ → List (ℕ × BaseEntry) → List Commit → Type 0) (v w : ℕ) (base found : List (ℕ × BaseEntry))
-    (log read : List Commit) → v ≡ w → base ≡ found → log ≡ read → P v base log → P w found read
-as-read P v w base found log read e f g p =
-    subst (λ x. P x found read) e (subst (λ b. P v b read) f (subst (λ l. P v base l) g p))
+pub as-read : (P : ℕ → List (ℕ × BaseEntry) → Type 0) (v w : ℕ) (base found : List (ℕ × BaseEntry)) → v ≡ w
+    → base ≡ found → P v base → P w found
+as-read P v w base found e f p = subst (λ x. P x found) e (subst (λ b. P v b) f p)
 
 all-short : (version last : ℕ) (es : List Entry) → AreEntries version last es
     → AllByRecursion IsShort (base_payloads es)

@@ -1,33 +1,25 @@
--- The commits of a log behind a base, made again one after the other.
-use Rattle.std.proofs.Common.{◌≡◌, ◌+◌, ◌++◌, ◌<◌, ◌≤◌, ◌∙◌, ap, arith, drop, get_or, length, List, [], ◌∷◌, map, None, refl, subst, sym, take, ℕ}
+-- The commits of a journal behind a base, made again one after the other.
+use Rattle.std.proofs.Common.{◌≡◌, ◌++◌, ◌∙◌, ap, append_assoc, arith, inl, inr, List, [], ◌∷◌, map, None, Option, refl, Some, subst, sym, ℕ}
 use Rattle.std.proofs.lemmas.List.{map-append}
-use Rattle.std.proofs.Math.Seq.{take_all}
-use Rattle.std.specs.List.{AllByRecursion}
 use Rattle.commit_log.specs.Change.{Change as Logged, change_of}
 use Rattle.commit_log.specs.Entry.{Entry}
-use Rattle.commit_log.specs.Log.{IsLogged, changes_of}
+use Rattle.commit_log.specs.Base.{entries_of}
+use Rattle.commit_log.specs.Log.{changes_of}
+use Rattle.commit_log.specs.declared.base.BaseEntry.{BaseEntry}
 use Rattle.commit_log.specs.declared.change.Commit.{Commit}
 use Rattle.store_core.specs.Based.{based}
-use Rattle.store_core.specs.Stored.{IsServing, Served, StandsFor, StoreTerm as Memory, alone, served}
+use Rattle.store_core.specs.Stored.{IsServing, StandsFor, StoreTerm as Memory, alone, served}
 use Rattle.store_machine.specs.History.{IsHistory, grown, head}
 use Rattle.store_machine.specs.Machine.{MayAdd, committed}
 use Rattle.store_machine.specs.Openings.{IsOpened}
 use Rattle.store_machine.specs.declared.machine.Change.{Change}
+use Rattle.store_machine.specs.declared.machine.Entry.{Entry as Kept}
 use Rattle.store_machine.specs.declared.machine.History.{History}
 use Rattle.store_machine.specs.declared.machine.State.{State}
 use Rattle.store_disk.specs.Loads.{MayFollow}
 use Rattle.store_disk.specs.Payloads.{told, told_entry, told_history}
-use Rattle.store_disk.specs.Replays.{HasBased, IsReplayed, Stops}
-use Rattle.store_disk.proofs.Based.{next-is, split-is}
+use Rattle.store_disk.specs.Replays.{HasBased, HasCome, IsReplayed, LacksText, Made, Stops}
 use Rattle.store_disk.proofs.Lifts.{serving-alone}
-
--- the store stands for a part of this history, with the greatest limit and nothing pinned
-pub record Made (memory : Memory) (version : ℕ) (entries : List Entry) (changes : List Logged) : Type 0 where
-  pub part : Served
-  pub stands : StandsFor memory part
-  pub history : part.history ≡ told_history version entries changes
-  pub limit : part.limit ≡ 16777215
-  pub pins : part.pins ≡ []
 
 pub made-none : (memory : Memory) (version : ℕ) (entries : List Entry) → HasBased memory version entries
     → Made memory version entries []
@@ -56,6 +48,15 @@ module _ (version : ℕ) (entries : List Entry) where
     pins = m.pins;
   }
 
+  -- with fewer entries kept it is so too
+  pub made-thinned : (memory new : Memory) (changes : List Logged) → (m : Makes memory changes)
+      → ((s : State) → StandsFor memory (served s) → s.copy ≡ None → (kept : List Kept)
+      × StandsFor new (served (record s { kept = kept })))
+      → Makes new changes
+  made-thinned memory new changes m thins =
+      let t = thins (alone m.part) m.stands refl in
+      record { part = record m.part { kept = t.0 }; stands = t.1; history = m.history; limit = m.limit; pins = m.pins }
+
   -- where it stops
   may-add : (memory : Memory) (changes : List Logged) (m : Makes memory changes) (c : Logged)
       → MayFollow (told_history version entries changes) (told c) → MayAdd (alone m.part) (told c)
@@ -78,44 +79,49 @@ module _ (version : ℕ) (entries : List Entry) where
     refused = λ may. never (alone m.part) m.stands (may-add memory (changes_of before) m (change_of c.wire) may);
   }
 
-  module _ (log : List Commit) (i : ℕ) (c : Commit) (less : i < length log) (is : c ≡ get_or log i c) where
-    pub made-next : (memory new : Memory) (m : Makes memory (changes_of (take i log)))
-        → MayAdd (alone m.part) (told (change_of c.wire))
-        × StandsFor new (served (committed (alone m.part) (told (change_of c.wire))))
-        → Makes new (changes_of (take (i + 1) log))
-    made-next memory new m next =
-        subst (Makes new) (sym (ap changes_of (next-is log i c less is) ∙ map-append (λ (x : Commit). change_of x.wire)
-        (take i log) (c ∷ []))) (made-more memory new (changes_of (take i log)) (change_of c.wire) m next)
-
-    -- where the next commit may not follow
-    pub stops-at : (memory : Memory) → Makes memory (changes_of (take i log)) → (at : ℕ) → (at ≡ c.at)
-        × ((s : State) → StandsFor memory (served s) → ¬ MayAdd s (told (change_of c.wire)))
-        → Stops version entries log at
-    stops-at memory m at d =
-        stops log (take i log) c (drop (i + 1) log) memory at (split-is log i c less is) d.0 m d.1
-
-  -- all of a log, made and opened
-  pub replayed : (memory result : Memory) (commits : ℕ) (log : List Commit) (i : ℕ) → length log ≤ i
-      → Makes memory (changes_of (take i log))
+  -- all of it, opened
+  pub replayed : (memory result : Memory) (commits : ℕ) (changes : List Logged) → Makes memory changes
       → ((s : State) → IsServing memory s → s.copy ≡ None → s.pins ≡ []
       → (t : State) × IsServing result t × (t.history ≡ s.history) × IsOpened commits t)
-      → IsReplayed result commits version entries (changes_of log)
-  replayed memory result commits log i all m opened =
+      → IsReplayed result commits version entries changes
+  replayed memory result commits changes m opened =
       let o = opened (alone m.part) (serving-alone memory m.part m.stands) refl m.pins in
-      record {
-        state = o.0;
-        serving = o.1;
-        history = o.2 ∙ m.history ∙ ap (λ l. told_history version entries (changes_of l)) (take_all i log all);
-        opened = o.3;
-      }
+      record { state = o.0; serving = o.1; history = o.2 ∙ m.history; opened = o.3 }
 
-all-at : (cs : List Commit) (c : Commit) (more : List Commit) → AllByRecursion IsLogged (changes_of (cs ++ c ∷ more))
-    → IsLogged (change_of c.wire)
-all-at [] c more all = all.0
-all-at (x ∷ cs) c more all = all-at cs c more all.1
+  -- where it stopped before
+  stops-more : (log : List Commit) (c : Commit) (at : ℕ) → Stops version entries log at
+      → Stops version entries (log ++ c ∷ []) at
+  stops-more log c at s = record {
+    before = s.before;
+    commit = s.commit;
+    more = s.more ++ c ∷ [];
+    is = ap (λ (l : List Commit). l ++ c ∷ []) s.is ∙ append_assoc s.before (s.commit ∷ s.more) (c ∷ []);
+    place = s.place;
+    history = s.history;
+    few = s.few;
+    refused = s.refused;
+  }
 
-pub logged-at : (log : List Commit) (i : ℕ) (c : Commit) → i < length log → c ≡ get_or log i c
-    → AllByRecursion IsLogged (changes_of log) → IsLogged (change_of c.wire)
-logged-at log i c less is all =
-    all-at (take i log) c (drop (i + 1) log)
-    (subst (λ l. AllByRecursion IsLogged (changes_of l)) (split-is log i c less is) all)
+module _ (version : ℕ) (base : List (ℕ × BaseEntry)) (log : List Commit) (c : Commit) where
+  -- a commit more is made
+  pub come-made : (memory new : Memory) (m : Made memory version (entries_of base) (changes_of log))
+      → MayAdd (alone m.part) (told (change_of c.wire))
+      × StandsFor new (served (committed (alone m.part) (told (change_of c.wire))))
+      → Made new version (entries_of base) (changes_of (log ++ c ∷ []))
+  come-made memory new m next =
+      subst (Made new version (entries_of base)) (sym (map-append (λ (x : Commit). change_of x.wire) log (c ∷ [])))
+      (made-more version (entries_of base) memory new (changes_of log) (change_of c.wire) m next)
+
+  -- it may not follow
+  pub come-stops : (memory : Memory) (at : ℕ) → Made memory version (entries_of base) (changes_of log)
+      → (at ≡ c.at) × ((s : State) → StandsFor memory (served s) → ¬ MayAdd s (told (change_of c.wire)))
+      → Stops version (entries_of base) (log ++ c ∷ []) at
+  come-stops memory at m d =
+      stops version (entries_of base) (log ++ c ∷ []) log c [] memory at refl d.0 m d.1
+
+  -- an earlier one, or an entry, could not be made
+  pub come-stopped : (memory : Memory) (o : Option ℕ) (x : ℕ) → o ≡ Some x → HasCome memory o version base log
+      → HasCome memory o version base (log ++ c ∷ [])
+  come-stopped memory None x is come = cc is
+  come-stopped memory (Some at) x is (inl lacks) = inl lacks
+  come-stopped memory (Some at) x is (inr s) = inr (stops-more version (entries_of base) log c at s)

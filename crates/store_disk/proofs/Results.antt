@@ -1,5 +1,5 @@
 -- What holds of the place of a damage, from one result to the next.
-use Rattle.std.proofs.Common.{◌≡◌, Err, IsErrAnd, Ok, Result, subst, sym, ℕ}
+use Rattle.std.proofs.Common.{◌≡◌, Err, IsErrAnd, Ok, OnOk, Result, subst, sym, ℕ}
 use Rattle.journal_core.specs.Answers.{OnDamaged}
 use Rattle.journal_core.specs.declared.faults.LoadFault.{LoadFault}
 use Rattle.journal_core.specs.declared.faults.LoadFault.TheVariants as fault
@@ -12,11 +12,16 @@ on-damaged (Err fault.NotAStore) f p = tt
 on-damaged (Err (fault.Damaged at)) f p = f at p
 on-damaged (Err fault.NoMemory) f p = tt
 
-same-fault : (X Y : Type 0) (P : ℕ → Type 0) (f : LoadFault) → OnDamaged {T = Y} (Err f) P → OnDamaged {T = X} (Err f) P
+-- the fault alone counts
+pub same-fault : (X Y : Type 0) (P : ℕ → Type 0) (f : LoadFault) → OnDamaged {T = Y} (Err f) P → OnDamaged {T = X} (Err f) P
 same-fault X Y P fault.Disk p = tt
 same-fault X Y P fault.NotAStore p = tt
 same-fault X Y P (fault.Damaged at) p = p
 same-fault X Y P fault.NoMemory p = tt
+
+pub on-ok : {T E : Type 0} {P Q : Type 0} (r : Result T E) → (P → Q) → OnOk r P → OnOk r Q
+on-ok (Ok x) f p = f p
+on-ok (Err e) f p = tt
 
 -- by the result of a `?`
 pub damaged-after : {X : Type 0} (Y : Type 0) {P Q : ℕ → Type 0} (f : LoadFault) (r : Result X LoadFault)

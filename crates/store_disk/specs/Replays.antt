@@ -1,19 +1,19 @@
 -- What a journal is made to in memory, and where that stops. For private clauses alone.
-use Rattle.std.specs.Prelude.{◌≡◌, ◌++◌, ◌≤◌, List, ◌∷◌, map, ℕ}
+use Rattle.std.specs.Prelude.{◌≡◌, ◌⊎◌, ◌++◌, ◌≤◌, List, [], ◌∷◌, map, None, Option, Some, ℕ}
 use Rattle.std.specs.List.{AllByRecursion}
 use Rattle.commit_log.specs.Base.{entries_of}
 use Rattle.commit_log.specs.Change.{Change as Logged, change_of}
 use Rattle.commit_log.specs.Entry.{Entry, entry_of}
-use Rattle.commit_log.specs.Log.{changes_of}
+use Rattle.commit_log.specs.Log.{IsLog, Takes, changes_of, payloads as log_payloads}
 use Rattle.commit_log.specs.declared.base.BaseEntry.{BaseEntry}
 use Rattle.commit_log.specs.declared.change.Commit.{Commit}
 use Rattle.disk_edge.specs.Disk.{DiskModel, IfTold}
 use Rattle.disk_pair.specs.Pairs.{OpensAs}
 use Rattle.journal_core.specs.Fronts.{IsFront}
-use Rattle.journal_core.specs.Journal.{Rests}
+use Rattle.journal_core.specs.Journal.{Reads, Rests}
 use Rattle.journal_core.specs.Standing.{Standing}
 use Rattle.store_core.specs.Based.{based}
-use Rattle.store_core.specs.Stored.{IsServing, StandsFor as InMemory, StoreTerm as Memory}
+use Rattle.store_core.specs.Stored.{IsServing, Served, StandsFor as InMemory, StoreTerm as Memory}
 use Rattle.store_machine.specs.History.{HasText, IsHistory, head}
 use Rattle.store_machine.specs.Openings.{IsOpened}
 use Rattle.store_machine.specs.declared.machine.History.{History}
@@ -43,6 +43,14 @@ pub record IsReplayed (memory : Memory) (commits version : ℕ) (entries : List 
     pub history : state.history ≡ told_history version entries changes
     pub opened : IsOpened commits state
 
+-- the store in memory stands for a part of this history, with the greatest limit and nothing pinned
+pub record Made (memory : Memory) (version : ℕ) (entries : List Entry) (changes : List Logged) : Type 0 where
+  pub part : Served
+  pub stands : InMemory memory part
+  pub history : part.history ≡ told_history version entries changes
+  pub limit : part.limit ≡ 16777215
+  pub pins : part.pins ≡ []
+
 -- a log stops at the first commit that may not follow the base and those before it
 pub record Stops (version : ℕ) (entries : List Entry) (log : List Commit) (at : ℕ) : Type 0 where
   pub before : List Commit
@@ -53,6 +61,19 @@ pub record Stops (version : ℕ) (entries : List Entry) (log : List Commit) (at 
   pub history : IsHistory (told_history version entries (changes_of before))
   pub few : head (told_history version entries (changes_of before)) ≤ 16777215
   pub refused : ¬ MayFollow (told_history version entries (changes_of before)) (told (change_of commit.wire))
+
+-- the store in memory after a base and these commits, or where they stop
+abbrev pub HasCome : Memory → Option ℕ → ℕ → List (ℕ × BaseEntry) → List Commit → Type 0
+HasCome memory None version base log = Made memory version (entries_of base) (changes_of log)
+HasCome memory (Some at) version base log = LacksText base at ⊎ Stops version (entries_of base) log at
+
+-- These are the commits from one record on to the end, at which the journal rests.
+pub record IsReadTo {D : Type 0} (model : DiskModel D) (old new : Standing D) (log : List Commit) : Type 0 where
+  pub takes : Takes old.place log new.place
+  pub is_log : (front : List ℕ) (before : List (List ℕ)) → Reads model old front before
+      → IfTold (model.content old.disk) (IsLog front before (changes_of log))
+  pub rests : (front : List ℕ) (before : List (List ℕ)) → Reads model old front before
+      → Rests model new front (before ++ log_payloads (changes_of log))
 
 -- The journal rests behind the payloads of a history.
 pub record RestsAs {D : Type 0} (model : DiskModel D) (journal : Standing D) (generation : ℕ) (h : History) : Type 0

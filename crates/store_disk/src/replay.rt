@@ -1,54 +1,178 @@
-//! The entries of a base are put into memory, and the commits of a log are made again behind them, one after the other.
+//! The entries of a base are put into memory, and the commits of a journal are made again behind them, each as it is read.
 
-ghost use Rattle.std.specs.Prelude.{◌≡◌, ◌≤◌, ◌⊎◌, [], IfOk, IsErrOf, None, OnOk};
+ghost use Rattle.std.specs.Prelude.{◌≡◌, ◌≤◌, ◌⊎◌, ◌++◌, ℕ, [], ◌∷◌, false, IfOk, IsErrOf, List, None, OnOk, true};
 ghost use Rattle.std.specs.List.{AllByRecursion};
 ghost use Rattle.commit_log.specs.Base.{AreEntries, entries_of};
 ghost use Rattle.commit_log.specs.Change as logged;
 ghost use Rattle.commit_log.specs.Entry.{entry_of};
-ghost use Rattle.commit_log.specs.Log.{IsLogged, changes_of};
+ghost use Rattle.commit_log.specs.Log.{DamagesLog, IsLogged, changes_of};
+ghost use Rattle.commit_log.specs.declared.base.BaseEntry.{BaseEntry as TheEntry};
+ghost use Rattle.commit_log.specs.declared.change.Commit.{Commit as TheCommit};
+ghost use Rattle.disk_edge.specs.Disk.{Faulted, IfTold};
 ghost use Rattle.journal_core.specs.Answers.{OnDamaged};
+ghost use Rattle.journal_core.specs.Journal.{Reads};
+ghost use Rattle.journal_core.specs.Looks.{Looks};
 ghost use Rattle.store_core.specs.Based.{IsBefore, IsGiven};
 ghost use Rattle.store_core.specs.Stored.{IsServing, StandsFor, served};
 ghost use Rattle.store_machine.specs.History.{HasText, IsId};
 ghost use Rattle.store_machine.specs.Machine.{MayAdd, committed};
 ghost use Rattle.store_machine.specs.Openings.{IsOpened};
+ghost use Rattle.store_machine.specs.declared.machine.Entry.{Entry};
 ghost use Rattle.store_machine.specs.declared.machine.State.{State};
 ghost use Rattle.store_disk.specs.Payloads.{told, told_entry};
-ghost use Rattle.store_disk.specs.Replays.{HasBased, IsReplayed, LacksText, Stops};
+ghost use Rattle.store_disk.specs.Replays.{HasBased, HasCome, IsReadTo, IsReplayed, LacksText, Made, Stops};
 
 use crate::payload::{change_from, record_from};
-use commit_log::{BaseEntry, Commit};
-use journal_core::LoadFault;
+use commit_log::{BaseEntry, Commit, next_commit};
+use disk_edge::Disk;
+use journal_core::{Journal, LoadFault};
 use mol_finish::TextFault;
-use std::alloc::Global;
+use std::alloc::{AllocError, Global};
 use store_core::{CommitFault, MOST_COMMITS, Recorder, Store as Memory};
 
-/// The store in memory after the commits of a log behind a base. It keeps what the head reads.
-pub(crate) fn replay(
+// The entries beyond as many as there are states at which what the head does not read is dropped.
+const SPARE: u32 = 4096;
+
+/// The commits of a journal, from the record on at which it stands, are made in memory behind a base. Each is read, made
+/// and dropped before the next is read. The store keeps what the head reads, and on the way no more than as many entries
+/// again and a few thousand.
+///
+/// Where an entry or a commit cannot be made, the rest is only read: a journal that is damaged at any place is reported
+/// as that.
+pub(crate) fn replay<D: Disk>(
     alloc: Global,
+    journal: &mut Journal<D>,
     version: u32,
     base: &[(u64, BaseEntry)],
-    log: &[Commit],
     commits: u32,
 ) -> Result<Memory, LoadFault>
+    requires settled { journal.old.doubt ≡ false }
+    requires based { journal.old.left ≡ 0 }
     requires some { 1 ≤ commits }
     requires few { commits ≤ MOST_COMMITS }
     requires within { version ≤ MOST_COMMITS }
     requires entries { AreEntries version 0 (entries_of base.now) }
-    requires logged { AllByRecursion IsLogged (changes_of log.now) }
-    ensures ok { IfOk result (λ memory. IsReplayed memory commits version (entries_of base.now)
-        (changes_of log.now)) }
-    ensures damaged { OnDamaged result (λ at. LacksText base.now at
-        ⊎ Stops version (entries_of base.now) log.now at) }
-    ensures no_disk { ¬ IsErrOf result LoadFault.Disk }
+
+    ensures ok { IfOk result (λ memory. (log : List TheCommit)
+        × IsReadTo D.model journal.old journal.new log
+        × IsReplayed memory commits version (entries_of base.now) (changes_of log)) }
+    ensures ready { OnOk result (journal.new.ready ≡ true) }
+    ensures damaged { OnDamaged result (λ at. ((front : List ℕ) (before : List (List ℕ))
+        → Reads D.model journal.old front before
+        → IfTold (D.model.content journal.old.disk) (DamagesLog front before at))
+        ⊎ ((log : List TheCommit) × IsReadTo D.model journal.old journal.new log
+        × (LacksText base.now at ⊎ Stops version (entries_of base.now) log at))) }
+    ensures cause { IsErrOf result LoadFault.Disk
+        → Faulted D.model journal.old.disk journal.new.disk }
     ensures no_other { ¬ IsErrOf result LoadFault.NotAStore }
+
+    ensures settled { journal.new.doubt ≡ false }
+    ensures header { journal.new.header ≡ journal.old.header }
+    ensures looks { Looks D.model journal.old.disk journal.new.disk }
 {
-    let mut recorder = Recorder::new(alloc);
-    let mut memory = based(alloc, &mut recorder, version, base)?;
-    for commit in log {
-        add(&mut recorder, &mut memory, commit)?;
+    let mut rebuild = Rebuild::begin(alloc, version, base)?;
+    loop {
+        match next_commit(alloc, journal) {
+            Ok(Some(commit)) => rebuild.add(commit)?,
+            Ok(None) => return rebuild.end(commits),
+            Err(fault) => return Err(fault),
+        }
     }
-    Ok(opened(memory, commits))
+}
+
+// The store in memory as it is made, entry by entry and commit by commit.
+#[derive(Drop)]
+struct Rebuild {
+    recorder: Recorder,
+    memory: Memory,
+    // How many commits were made since what the head does not read was dropped.
+    since: u32,
+    // The place of the first entry or commit that could not be made. What follows it is not made.
+    stopped: Option<u64>,
+}
+
+impl Rebuild {
+    // The store in memory at a base.
+    fn begin(alloc: Global, version: u32, base: &[(u64, BaseEntry)]) -> Result<Rebuild, AllocError>
+        requires within { version ≤ MOST_COMMITS }
+        requires entries { AreEntries version 0 (entries_of base.now) }
+        ensures { IfOk result (λ rebuild. HasCome rebuild.memory rebuild.stopped
+            version base.now []) }
+    {
+        let mut recorder = Recorder::new(alloc);
+        match based(alloc, &mut recorder, version, base) {
+            Ok(memory) => Ok(Rebuild {
+                recorder,
+                memory,
+                since: 0,
+                stopped: None,
+            }),
+            Err(LoadFault::Damaged(at)) => Ok(Rebuild {
+                recorder,
+                memory: Memory::at_base(alloc, version),
+                since: 0,
+                stopped: Some(at),
+            }),
+            Err(_) => Err(AllocError),
+        }
+    }
+
+    // One commit more.
+    fn add(&mut self, commit: Commit) -> Result<(), AllocError>
+        requires { IsLogged (logged.change_of commit.wire) }
+        ensures { OnOk result ((version : ℕ) (base : List (ℕ × TheEntry))
+            (log : List TheCommit) → HasCome self.old.memory self.old.stopped version base log
+            → HasCome self.new.memory self.new.stopped version base (log ++ commit ∷ [])) }
+    {
+        match self.stopped {
+            Some(_) => Ok(()),
+            None => self.make(&commit),
+        }
+    }
+
+    // One commit more, where each before it was made.
+    fn make(&mut self, commit: &Commit) -> Result<(), AllocError>
+        requires logged { IsLogged (logged.change_of commit.now.wire) }
+        requires made { self.old.stopped ≡ None }
+        ensures { OnOk result ((version : ℕ) (base : List (ℕ × TheEntry))
+            (log : List TheCommit) → Made self.old.memory version (entries_of base) (changes_of log)
+            → HasCome self.new.memory self.new.stopped version base (log ++ commit.now ∷ [])) }
+    {
+        match add(&mut self.recorder, &mut self.memory, commit) {
+            Ok(()) => {
+                self.since = thinned(&mut self.memory, self.since);
+                Ok(())
+            }
+            Err(LoadFault::Damaged(at)) => {
+                self.stopped = Some(at);
+                Ok(())
+            }
+            Err(_) => Err(AllocError),
+        }
+    }
+
+    // The store, which takes `commits` commits in all from now on, or the place at which it could not be made.
+    fn end(self, commits: u32) -> Result<Memory, LoadFault>
+        requires { commits ≤ MOST_COMMITS }
+        ensures ok { IfOk result (λ memory. (version : ℕ) (base : List (ℕ × TheEntry))
+            (log : List TheCommit) → HasCome self.memory self.stopped version base log
+            → IsReplayed memory commits version (entries_of base) (changes_of log)) }
+        ensures damaged { OnDamaged result (λ at. (version : ℕ) (base : List (ℕ × TheEntry))
+            (log : List TheCommit) → HasCome self.memory self.stopped version base log
+            → LacksText base at ⊎ Stops version (entries_of base) log at) }
+        ensures no_disk { ¬ IsErrOf result LoadFault.Disk }
+        ensures no_other { ¬ IsErrOf result LoadFault.NotAStore }
+    {
+        let Rebuild {
+            memory,
+            stopped,
+            ..
+        } = self;
+        match stopped {
+            None => Ok(opened(memory, commits)),
+            Some(at) => Err(LoadFault::Damaged(at)),
+        }
+    }
 }
 
 // The store in memory at a base.
@@ -129,6 +253,19 @@ fn add(recorder: &mut Recorder, memory: &mut Memory, commit: &Commit) -> Result<
         Err(TextFault::NoMemory) => Err(LoadFault::NoMemory),
         Err(_) => Err(LoadFault::Damaged(commit.at)),
     }
+}
+
+// Drops what the head does not read, where this is the commit after as many as there are states, and a few thousand, since
+// that was done last: so each entry is looked at a few times. It answers how many commits there are since then.
+fn thinned(memory: &mut Memory, since: u32) -> u32
+    ensures { (s : State) → StandsFor memory.old (served s) → s.copy ≡ None → (kept : List Entry)
+        × StandsFor memory.new (served (record s { kept = kept })) }
+{
+    if since <= memory.states().saturating_add(SPARE) {
+        return since.saturating_add(1);
+    }
+    let _ = memory.prune_but(None);
+    0
 }
 
 // Drops what the head does not read, and takes so many commits in all from now on.

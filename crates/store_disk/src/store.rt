@@ -37,7 +37,7 @@ use crate::disks::Disks;
 use crate::payload::payload_of;
 use crate::replay::replay;
 use chem_core::Print;
-use commit_log::{read_all, read_base};
+use commit_log::read_base;
 use disk_edge::{Disk, MemDisk, NoDisk};
 use disk_pair::{Pair, Picked, PutFault, Which, a_pair_opens_one_way};
 use journal_core::{Header, Journal, LoadFault};
@@ -402,8 +402,7 @@ fn memory_of<D: Disk>(
         return Err(LoadFault::Damaged(VERSION_PLACE));
     }
     let base = read_base(alloc, journal)?;
-    let log = read_all(alloc, journal)?;
-    replay(alloc, version, &base, &log, commits)
+    replay(alloc, journal, version, &base, commits)
 }
 
 // The two disks, of which the second one may be the current one.

@@ -1,39 +1,81 @@
-use Rattle.std.proofs.Common.{arith, inl, inr}
-use Rattle.commit_log.specs.Base.{entries_of}
-use Rattle.store_core.specs.Stored.{alone}
+use Rattle.std.proofs.Common.{◌++◌, [], ◌∷◌, Err, inl, inr, Option}
+use Rattle.std.proofs.lemmas.Result.{IfOk-weaker}
+use Rattle.commit_log.specs.declared.change.Commit.{Commit}
+use Rattle.journal_core.specs.LookLaws.{looks_none}
 use Rattle.store_core.specs.declared.store.Store.{Store as Memory}
-use Rattle.store_disk.proofs.Replayed.{logged-at, made-next, made-none, replayed, stops-at}
-use Rattle.store_disk.proofs.Results.{damaged-after}
+use Rattle.store_disk.proofs.Reading.{log-damaged, looks-more, read-to, reading-more, reading-none}
+use Rattle.store_disk.proofs.Results.{on-damaged, same-fault}
 use Rattle.store_disk.proofs.replay.replay.Goals as goal
 
-pub returns-in_err-memory-clause-damaged : goal.returns-in_err-memory-clause-damaged
-returns-in_err-memory-clause-damaged c = damaged-after Memory c.in_err-memory.field-0.0 c.from_residual.result
-    c.from_residual.ensures.1 (λ at lacks. inl lacks) c.in_err-memory.ensures.damaged
-
 pub loop-commit-init : goal.loop-commit-init
-loop-commit-init c =
-    made-none c.in_ok-memory.memory c.args.version (entries_of c.args.base.now) c.in_ok-memory.ensures.ok
-
-pub add-requires : goal.add-requires
-add-requires c = logged-at c.args.log.now c.loop-commit.commit-index c.commit-item.result c.loop-commit-test.true
-    c.commit-item.is c.requires.logged
-
-pub returns-in_err-add-clause-damaged : goal.returns-in_err-add-clause-damaged
-returns-in_err-add-clause-damaged c =
-    damaged-after (Unit {0}) c.in_err-add.field-0.0 c.from_residual-in_err-add.result
-    c.from_residual-in_err-add.ensures.1
-    (λ at d. inr (stops-at c.args.version (entries_of c.args.base.now) c.args.log.now c.loop-commit.commit-index
-    c.commit-item.result c.loop-commit-test.true c.commit-item.is c.loop-commit.memory c.loop-commit.invariant at d))
-    c.in_err-add.ensures.damaged
+loop-commit-init g c = (
+  [],
+  reading-none g.D.Disk.model c.args.journal.now c.requires.settled
+      (looks_none g.D.Disk.model c.args.journal.now.disk (g.met.D.Disk.only_now c.args.journal.now.disk)),
+  c.in_ok-rebuild.ensures,
+)
 
 pub loop-commit-preserved : goal.loop-commit-preserved
-loop-commit-preserved c =
-    made-next c.args.version (entries_of c.args.base.now) c.args.log.now c.loop-commit.commit-index c.commit-item.result
-    c.loop-commit-test.true c.commit-item.is c.loop-commit.memory c.add.new.memory c.loop-commit.invariant
-    (c.in_ok-add.ensures.ok (alone c.loop-commit.invariant.part) c.loop-commit.invariant.stands)
+loop-commit-preserved g c =
+    let commit = c.in-Ok-Some.commit in
+    let was = c.loop-commit.invariant in
+    let found = rw c.in-Ok-Some.field-0-is at c.in-Ok-Some.ensures.commit in
+    let reads = rw c.in-Ok-Some.field-0-is at c.in-Ok-Some.ensures.reads in (
+      was.0 ++ commit ∷ [],
+      reading-more g.D.Disk.model c.args.journal.now g.met.D.Disk.parts c.loop-commit.journal
+          c.next_commit.new.journal was.0 was.1 commit found reads c.in-Ok-Some.ensures.settled
+          c.in-Ok-Some.ensures.header c.in-Ok-Some.ensures.looks,
+      c.in_ok-add-in-Ok-Some.ensures c.args.version c.args.base.now was.0 was.2,
+    )
 
-pub returns-clause-ok : goal.returns-clause-ok
-returns-clause-ok c =
-    replayed c.args.version (entries_of c.args.base.now) c.loop-commit.memory c.opened.result c.args.commits
-    c.args.log.now c.loop-commit.commit-index (omega (arith, c.loop-commit-test.false)) c.loop-commit.invariant
-    c.opened.ensures
+pub returns-in_err-add-in-Ok-Some-clause-looks : goal.returns-in_err-add-in-Ok-Some-clause-looks
+returns-in_err-add-in-Ok-Some-clause-looks g c =
+    let was = c.loop-commit.invariant in
+    looks-more g.D.Disk.model c.args.journal.now g.met.D.Disk.parts c.loop-commit.journal c.next_commit.new.journal
+    was.0 was.1 c.in-Ok-Some.ensures.looks
+
+pub returns-in-Ok-None-clause-ok : goal.returns-in-Ok-None-clause-ok
+returns-in-Ok-None-clause-ok g c =
+    let was = c.loop-commit.invariant in
+    let end = rw c.in-Ok-None.field-0-is at c.in-Ok-None.ensures.end in
+    IfOk-weaker c.end.result _ _
+    (λ memory made. (
+      was.0,
+      read-to g.D.Disk.model c.args.journal.now g.met.D.Disk.parts c.loop-commit.journal c.next_commit.new.journal
+          was.0 was.1 g.met.D.Disk.content_is_image end.1 end.2 c.in-Ok-None.ensures.looks,
+      made c.args.version c.args.base.now was.0 was.2,
+    ))
+    c.end.ensures.ok
+
+pub returns-in-Ok-None-clause-damaged : goal.returns-in-Ok-None-clause-damaged
+returns-in-Ok-None-clause-damaged g c =
+    let was = c.loop-commit.invariant in
+    let end = rw c.in-Ok-None.field-0-is at c.in-Ok-None.ensures.end in
+    on-damaged c.end.result
+    (λ at stopped. inr (
+      was.0,
+      read-to g.D.Disk.model c.args.journal.now g.met.D.Disk.parts c.loop-commit.journal c.next_commit.new.journal
+          was.0 was.1 g.met.D.Disk.content_is_image end.1 end.2 c.in-Ok-None.ensures.looks,
+      stopped c.args.version c.args.base.now was.0 was.2,
+    ))
+    c.end.ensures.damaged
+
+pub returns-in-Ok-None-clause-looks : goal.returns-in-Ok-None-clause-looks
+returns-in-Ok-None-clause-looks g c =
+    let was = c.loop-commit.invariant in
+    looks-more g.D.Disk.model c.args.journal.now g.met.D.Disk.parts c.loop-commit.journal c.next_commit.new.journal
+    was.0 was.1 c.in-Ok-None.ensures.looks
+
+pub returns-in-Err-clause-damaged : goal.returns-in-Err-clause-damaged
+returns-in-Err-clause-damaged g c =
+    let was = c.loop-commit.invariant in
+    same-fault (Option Commit) Memory _ c.in-Err.fault
+    (on-damaged {T = Option Commit} (Err c.in-Err.fault) (λ at found. inl (log-damaged g.D.Disk.model
+    c.args.journal.now g.met.D.Disk.parts c.loop-commit.journal c.next_commit.new.journal was.0 was.1 at found))
+    c.in-Err.ensures.damaged)
+
+pub returns-in-Err-clause-looks : goal.returns-in-Err-clause-looks
+returns-in-Err-clause-looks g c =
+    let was = c.loop-commit.invariant in
+    looks-more g.D.Disk.model c.args.journal.now g.met.D.Disk.parts c.loop-commit.journal c.next_commit.new.journal
+    was.0 was.1 c.in-Err.ensures.looks

@@ -1,0 +1,15 @@
+use Rattle.std.proofs.Common.{inl}
+use Rattle.commit_log.specs.Base.{entries_of}
+use Rattle.store_core.specs.declared.store.Store.{Store as Memory}
+use Rattle.store_disk.specs.Replays.{LacksText}
+use Rattle.store_disk.proofs.Replayed.{made-none}
+use Rattle.store_disk.proofs.Results.{damaged-at}
+use Rattle.store_disk.proofs.replay.Rebuild.begin.Goals as goal
+
+pub returns-in-Ok : goal.returns-in-Ok
+returns-in-Ok c = made-none c.in-Ok.memory c.args.version (entries_of c.args.base.now) c.in-Ok.ensures.ok
+
+pub returns-in-Err-Damaged : goal.returns-in-Err-Damaged
+returns-in-Err-Damaged c =
+    inl (damaged-at Memory c.in-Err-Damaged.field-0 c.in-Err-Damaged.at (LacksText c.args.base.now)
+    c.in-Err-Damaged.field-0-is c.in-Err-Damaged.ensures.damaged)
