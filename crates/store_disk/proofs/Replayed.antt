@@ -18,7 +18,7 @@ use Rattle.store_machine.specs.declared.machine.History.{History}
 use Rattle.store_machine.specs.declared.machine.State.{State}
 use Rattle.store_disk.specs.Loads.{MayFollow}
 use Rattle.store_disk.specs.Payloads.{told, told_entry, told_history}
-use Rattle.store_disk.specs.Replays.{HasBased, HasCome, IsReplayed, LacksText, Made, Stops}
+use Rattle.store_disk.specs.Replays.{HasBased, HasCome, IsReplayed, Made, Stops}
 use Rattle.store_disk.proofs.Lifts.{serving-alone}
 
 pub made-none : (memory : Memory) (version : ℕ) (entries : List Entry) → HasBased memory version entries

@@ -8,6 +8,6 @@ pub returns-in-Some : goal.returns-in-Some
 returns-in-Some c = λ version base log come. come-stopped version base log c.args.commit c.args.self.now.memory
     c.args.self.now.stopped c.in-Some.field-0 c.in-Some.is come
 
-pub returns-in-None : goal.returns-in-None
-returns-in-None c = on-ok c.make.result (λ made version base log come. made version base log
+pub returns : goal.returns
+returns c = on-ok c.make.result (λ made version base log come. made version base log
     (subst (λ (o : Option ℕ). HasCome c.args.self.now.memory o version base log) c.in-None.is come)) c.make.ensures

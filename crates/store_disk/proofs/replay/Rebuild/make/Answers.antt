@@ -1,7 +1,6 @@
-use Rattle.std.proofs.Common.{◌++◌, [], ◌∷◌, None, Option, inr, subst, sym, ℕ}
+use Rattle.std.proofs.Common.{◌++◌, [], ◌∷◌, Option, inr, subst, sym, ℕ}
 use Rattle.commit_log.specs.Base.{entries_of}
 use Rattle.commit_log.specs.Log.{changes_of}
-use Rattle.journal_core.specs.declared.faults.LoadFault.{LoadFault}
 use Rattle.store_core.specs.Stored.{alone}
 use Rattle.store_disk.specs.Replays.{HasCome}
 use Rattle.store_disk.proofs.Replayed.{come-made, come-stops, made-thinned}
