@@ -213,12 +213,12 @@ long pwrite(int file, const void *from, size count, offset at) {
 static int sync_folder(int file) {
   char path[4096], there[4400];
   const char *name = inside(file, path, sizeof path), *names[] = {"store", "store.2"};
-  int done = (int)syscall(FSYNC, file);
-  for (int which = 0; !done && name && !*name && which < 2; which++) {
+  if (!name || *name) return (int)syscall(FSYNC, file);
+  for (int which = 0; which < 2; which++) {
     snprintf(there, sizeof there, "%s/%s", getenv("PAGE_CACHE"), names[which]);
     if (!access(there, 0)) note(which ? "store.2.named" : "store.named");
   }
-  return done;
+  return 0;
 }
 
 static int sync(int file) {
