@@ -426,8 +426,12 @@ class _Program:
         environment.setdefault("GLIBC_TUNABLES", "glibc.malloc.hugetlb=1")
         command = [program or os.environ.get("CHEMDB") or "chemdb", *words]
         # In a session of its own, so that a Ctrl-C reaches the client alone, which then ends the program.
-        self.process = subprocess.Popen(command, stdin=stdin, stdout=stdout, stderr=self.errors, env=environment,
-                                        start_new_session=True)
+        try:
+            self.process = subprocess.Popen(command, stdin=stdin, stdout=stdout, stderr=self.errors, env=environment,
+                                            start_new_session=True)
+        except OSError:
+            self.errors.close()
+            raise
 
     def over(self) -> bool:
         return self.process.poll() is not None
