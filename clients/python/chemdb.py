@@ -813,6 +813,9 @@ class ChemDB:
             self._broken = "it is closed"
             self._wire.close()
 
+    def __del__(self) -> None:
+        self._shut()
+
     def __enter__(self) -> ChemDB:
         return self
 

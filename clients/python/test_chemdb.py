@@ -300,6 +300,7 @@ class Ends(Store):
             whole = file.read()
         with open(self.path("damaged"), "wb") as file:
             file.write(whole[:-1] + b"\x5a")
+        open(self.path("damaged.2"), "w").close()
         self.assertEqual(self.ended(chemdb.mem, workers=17).status, 2)
         self.assertEqual(self.ended(chemdb.run, self.path("absent")).status, 5)
         self.assertEqual(self.ended(chemdb.run, self.path("text")).status, 6)
