@@ -1,8 +1,8 @@
 #!/usr/bin/env bash
 # Serves a catalogue of drug-like structures in 1, 2 and 4 parts, each a store of its own behind a worker of
-# dask.distributed, and beside it as one store with as many threads (--workers). Prints for each the seconds to load it, to
-# search 34 patterns, and to find 20 structures by `same`: of searches and lookups the least of three rounds. The stores
-# are in FOLDER (/dev/shm, a disk in memory, if left out). PROGRAM names another program than that of ./build.
+# dask.distributed, and beside it as one store with as many threads (--workers). Prints for each the seconds to load it,
+# to search 34 patterns, and to find 20 structures by `same`: of searches and lookups the least of three rounds. The
+# stores are in FOLDER (/dev/shm, a disk in memory, if left out). PROGRAM names another program than that of ./build.
 # Usage: bench/parts.sh [STRUCTURES [FOLDER]]
 set -euo pipefail
 cd "$(dirname "${BASH_SOURCE[0]}")/.."

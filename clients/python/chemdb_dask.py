@@ -181,8 +181,6 @@ class Parts:
                                             workers=[worker], key=f"part-{part}-{uuid.uuid4()}")
                 try:
                     self._actors[part] = future.result(2 * PATIENCE)
-                except chemdb.ChemDBError:
-                    raise
                 except Exception as error:
                     raise PartFailed(part, self.files[part], f"it could not be opened at {worker}: {error}") from error
                 self._workers[part] = worker
