@@ -16,6 +16,7 @@
 //   PAGE_CACHE_KILL   the number of the call (write, sync, cut, advice) in which the process is killed
 //   PAGE_CACHE_WHERE  0 before that call, 1 in its middle, 2 after it
 //   PAGE_CACHE_DEAF   if it is set, the advice does nothing: a program that needs it loses commits then
+//   PAGE_CACHE_MOVED  if it is set, the file "store" is moved to this path before its lock is taken, and a new one made
 //
 // The kit's clang has no headers, so what is used of the C library is declared here. For Linux on x86-64 alone.
 typedef unsigned long size;
@@ -30,12 +31,13 @@ extern int snprintf(char *out, size room, const char *form, ...);
 extern int open(const char *path, int flags, ...);
 extern int close(int file);
 extern int access(const char *path, int how);
+extern int rename(const char *from, const char *to);
 extern long readlink(const char *path, char *out, size room);
 extern void *mmap(void *at, size length, int what, int how, int file, offset from);
 extern int munmap(void *at, size length);
 extern int *__errno_location(void);
 
-enum { PREAD = 17, PWRITE = 18, LSEEK = 8, KILL = 62, GETPID = 39, FSYNC = 74, CUT = 77, ADVISE = 221 };
+enum { LSEEK = 8, PREAD = 17, PWRITE = 18, GETPID = 39, KILL = 62, LOCK = 73, FSYNC = 74, CUT = 77, ADVISE = 221 };
 enum { READ_WRITE = 2, MAKE = 0100, SIGKILL = 9, EIO = 5, DONTNEED = 4, PAGE = 4096, MOST = 1 << 14 };
 enum { CLEAN, DIRTY, LOST };
 
@@ -211,12 +213,12 @@ long pwrite(int file, const void *from, size count, offset at) {
 static int sync_folder(int file) {
   char path[4096], there[4400];
   const char *name = inside(file, path, sizeof path), *names[] = {"store", "store.2"};
-  int done = (int)syscall(FSYNC, file);
-  for (int which = 0; !done && name && !*name && which < 2; which++) {
+  if (!name || *name) return (int)syscall(FSYNC, file);
+  for (int which = 0; which < 2; which++) {
     snprintf(there, sizeof there, "%s/%s", getenv("PAGE_CACHE"), names[which]);
     if (!access(there, 0)) note(which ? "store.2.named" : "store.named");
   }
-  return done;
+  return 0;
 }
 
 static int sync(int file) {
@@ -272,6 +274,13 @@ static int advise(int file, offset at, offset length, int advice) {
   if (kill) end();
   leave(&it);
   return 0;
+}
+
+int flock(int file, int how) {
+  char path[4096];
+  const char *name = inside(file, path, sizeof path), *moved = getenv("PAGE_CACHE_MOVED");
+  if (moved && name && !strcmp(name, "store") && !rename(path, moved)) close(open(path, READ_WRITE | MAKE, 0644));
+  return (int)syscall(LOCK, file, how);
 }
 
 long pread64(int file, void *to, size count, offset at) { return pread(file, to, count, at); }
