@@ -52,7 +52,7 @@ class Atom:
             return self.symbol
         isotope = str(self.isotope) if self.isotope else ""
         count = "" if hydrogens == 0 else "H" if hydrogens == 1 else f"H{hydrogens}"
-        charge = f"{self.charge:+d}" if self.charge else ""
+        charge = {0: "", 1: "+", -1: "-"}.get(self.charge, f"{self.charge:+d}")
         return f"[{isotope}{self.symbol}{count}{charge}]"
 
 

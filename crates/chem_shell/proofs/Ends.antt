@@ -15,7 +15,7 @@ use Rattle.chem_shell.specs.Done.{Leaves}
 use Rattle.chem_shell.specs.Status.{first_fault, IsEndStatus, IsLoadStatus}
 use Rattle.chem_shell.specs.Ends.{HasEndCauses, with_status}
 use Rattle.chem_shell.specs.Loading.{HasCauses}
-use Rattle.chem_shell.specs.OnDisks.{IsRefused}
+use Rattle.chem_shell.specs.OnDisks.{IsRefusedAs}
 
 pub zip_weaker : {A B : Type 0} (R Q : A → B → Type 0) → ((x : A) (y : B) → R x y → Q x y) → (xs : List A) (ys : List B)
     → AllZip R xs ys → AllZip Q xs ys
@@ -115,10 +115,10 @@ module _ {D S K : Type 0} (model : DiskModel D) (left : S → Option (List ℕ))
       → LeavesBy v plan disks ends r → LeavesBy w plan disks ends r
   leaves_by v w plan disks ends r e l = subst (λ (x : Verb). LeavesBy x plan disks ends r) e l
 
-  -- where no end was served by `run` or `serve`
+  -- where no end was served by `serve`
   pub refused_all : (disks disks' : Disks D) (n : ℕ) (old new : List (End S K)) → IsLoadStatus n
       → Narrows model disks.a disks'.a → Narrows model disks.b disks'.b → new ≡ map (with_status n) old
-      → AllZip (IsRefused model disks disks') old new
+      → AllZip (IsRefusedAs model disks disks' n) old new
   refused_all disks disks' n old new status read_a read_b is =
-      zip_mapped (IsRefused model disks disks') (with_status n)
-      (λ end. record { status = status; end = refl; disk_a = read_a; disk_b = read_b }) old new is
+      zip_mapped (IsRefusedAs model disks disks' n) (with_status n)
+      (λ end. (record { status = status; end = refl; disk_a = read_a; disk_b = read_b }, refl)) old new is

@@ -6,7 +6,7 @@ use Rattle.store_disk.specs.declared.disks.Disks.{Disks}
 use Rattle.chem_shell.specs.Ends.{ServesBulk, ServesScript, with_status}
 use Rattle.session_run.specs.Cursors.{Calls}
 use Rattle.std.specs.List.{AllZip}
-use Rattle.chem_shell.specs.OnDisks.{AreAtDesks, AreOnDisks, Creates, IsRefused, RunsOn, ServesOn}
+use Rattle.chem_shell.specs.OnDisks.{AreAtDesks, AreOnDisks, Creates, IsRefused, IsRefusedAs, RunsOn, ServesOn}
 use Rattle.chem_shell.specs.declared.request.Plan.{Plan}
 use Rattle.serve_ends.specs.declared.end.End.{End}
 use Rattle.chem_shell.proofs.Asked.{SamePlan}
@@ -74,11 +74,11 @@ module _ {D S K : Type 0} (model : DiskModel D) (disks disks' : Disks D) where
   })
 
   pub serves_same : (left : S → Option (List ℕ)) (written : K → Option (List ℕ)) (p q : Plan)
-      (old new : List (End S K)) → p.commits ≡ q.commits → p.page ≡ q.page
-      → AllZip (IsRefused model disks disks') old new ⊎ ServesOn model left written q disks disks' old new
-      → AllZip (IsRefused model disks disks') old new ⊎ ServesOn model left written p disks disks' old new
-  serves_same left written p q old new commits page (inl r) = inl r
-  serves_same left written p q old new commits page (inr r) = inr (record {
+      (status : ℕ) (old new : List (End S K)) → p.commits ≡ q.commits → p.page ≡ q.page
+      → AllZip (IsRefusedAs model disks disks' status) old new ⊎ ServesOn model left written q disks disks' old new
+      → AllZip (IsRefusedAs model disks disks' status) old new ⊎ ServesOn model left written p disks disks' old new
+  serves_same left written p q status old new commits page (inl r) = inl r
+  serves_same left written p q status old new commits page (inr r) = inr (record {
     calls = r.calls;
     on = on_same model p q disks disks' r.calls commits r.on;
     each = subst (λ (k : ℕ). AreAtDesks left written k r.on.steps r.on.last.history 1 old new) (sym page) r.each;
@@ -88,14 +88,15 @@ module _ {D S K : Type 0} (model : DiskModel D) (disks disks' : Disks D) where
 
 -- where memory ran out before anything was done, `init` leaves the disks as they were
 pub creates_nothing : {D : Type 0} (model : DiskModel D) (disks disks' : Disks D) (status : ℕ) → status ≡ 8
-    → disks' ≡ disks → Creates model disks disks' status
-creates_nothing model disks disks' status is same = record {
+    → disks' ≡ disks → Narrows model disks.b disks'.b → Creates model disks disks' status
+creates_nothing model disks disks' status is same read_b = record {
   status_is = inr (inr (inl is));
   done = λ e. absurd (omega (arith, is, e));
   done_b = λ e. absurd (omega (arith, is, e));
   not_empty = λ e. absurd (omega (arith, is, e));
   stays = λ e. stays_same model disks.a disks'.a (ap (λ (d : Disks _). d.a) same);
-  stays_b = stays_same model disks.b disks'.b (ap (λ (d : Disks _). d.b) same);
+  stays_b = λ e. absurd (omega (arith, is, e));
+  narrows_b = read_b;
   kept = λ e. absurd (omega (arith, is, e));
   kept_b = λ e. absurd (omega (arith, is, e));
 }

@@ -9,7 +9,7 @@ use Rattle.chem_shell.specs.Contents.{disks_of}
 use Rattle.chem_shell.specs.Drills.{ServesDrill}
 use Rattle.chem_shell.specs.Ends.{HasEndCauses, ServesBulk, ServesMem}
 use Rattle.chem_shell.specs.Loading.{HasCauses}
-use Rattle.chem_shell.specs.OnDisks.{Creates, IsRefused, RunsOn, ServesOn}
+use Rattle.chem_shell.specs.OnDisks.{Creates, IsRefused, IsRefusedAs, RunsOn, ServesOn}
 use Rattle.chem_shell.specs.Status.{first_fault}
 use Rattle.chem_shell.specs.declared.outcome.Outcome.{Outcome}
 use Rattle.chem_shell.specs.declared.request.Plan.{Plan}
@@ -34,7 +34,7 @@ module _ {D S K : Type 0} (model : DiskModel D) (left : S → Option (List ℕ))
   Leaves Init plan disks ends r = (r.ends.items ≡ []) × Creates model disks (disks_of r) r.status
   Leaves Run plan disks ends r = AllZip (λ old new. IsRefused model disks (disks_of r) old new
       ⊎ RunsOn model left written plan disks (disks_of r) old new) ends r.ends.items
-  Leaves Serve plan disks ends r = AllZip (IsRefused model disks (disks_of r)) ends r.ends.items
+  Leaves Serve plan disks ends r = AllZip (IsRefusedAs model disks (disks_of r) r.status) ends r.ends.items
       ⊎ ServesOn model left written plan disks (disks_of r) ends r.ends.items
   Leaves Bulk plan disks ends r = (disks_of r ≡ disks) × AllZip (ServesBulk plan written) ends r.ends.items
   Leaves Drill plan disks ends r = (disks_of r ≡ disks) × AllZip (ServesDrill plan left written) ends r.ends.items

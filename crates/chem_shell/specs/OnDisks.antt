@@ -1,7 +1,7 @@
 -- For callers: what `init`, `run` and `serve` leave of the disks.
 use Rattle.std.specs.Prelude.{◌≡◌, ◌≢◌, ◌⊎◌, ◌++◌, ◌^◌, ◌≤◌, ℕ, suc, All, IfSome, List, [], ◌∷◌, length, Option, true}
 use Rattle.std.specs.List.{AllByRecursion}
-use Rattle.disk_edge.specs.Disk.{DiskModel, IfTold}
+use Rattle.disk_edge.specs.Disk.{DiskModel, Exactly, IfTold}
 use Rattle.journal_core.specs.Journal.{IsEmptyJournal}
 use Rattle.journal_core.specs.Looks.{Narrows, Stays}
 use Rattle.io_edge.specs.Lines.{lines_of}
@@ -30,16 +30,17 @@ use Rattle.serve_ends.specs.declared.end.End.{End}
 use Rattle.serve_ends.specs.declared.status.TheConstants.{DONE, NO_MEMORY, WORN}
 use Rattle.chem_shell.specs.declared.status.TheConstants.{DISK_FAULT, NOT_EMPTY}
 
--- `init`: where it is done, both disks were empty, and `a` has the empty store. Where a disk has bytes both are as
--- before, and so they are where memory ran out; `b` is as before in any case. A disk fault leaves `a` as it was where
--- either disk has bytes
+-- `init`: where it is done, both disks were empty, `a` has the empty store, and no crash leaves a byte on `b`. Where a
+-- disk has bytes both are as before, and `a` is where memory ran out; `b` is only read and synced in any case. A disk
+-- fault leaves `a` as it was where either disk has bytes
 pub record Creates {D : Type 0} (model : DiskModel D) (old new : Disks D) (status : ℕ) : Type 0 where
   pub status_is : IsCreationStatus status
   pub done : status ≡ DONE → IfTold (model.content old.a) (λ l. (l ≡ []) × IsEmptyJournal model new.a)
-  pub done_b : status ≡ DONE → IfTold (model.content old.b) (λ l. l ≡ [])
+  pub done_b : status ≡ DONE → IfTold (model.content old.b) (λ l. (l ≡ []) × Exactly [] (model.images new.b))
   pub not_empty : status ≡ NOT_EMPTY → IfBothTell model old (λ x y. (1 ≤ length x) ⊎ (1 ≤ length y))
   pub stays : (status ≡ NOT_EMPTY) ⊎ (status ≡ NO_MEMORY) → Stays model old.a new.a
-  pub stays_b : Stays model old.b new.b
+  pub stays_b : status ≡ NOT_EMPTY → IfTold (model.content old.a) (λ _. Stays model old.b new.b)
+  pub narrows_b : Narrows model old.b new.b
   pub kept : status ≡ DISK_FAULT → IfTold (model.content old.a) (λ l. 1 ≤ length l → Stays model old.a new.a)
   pub kept_b : status ≡ DISK_FAULT → IfTold (model.content old.b) (λ l. 1 ≤ length l → Stays model old.a new.a)
 
@@ -121,3 +122,7 @@ pub record IsRefused {D S K : Type 0} (model : DiskModel D) (disks disks' : Disk
   pub end : new ≡ with_status new.status old
   pub disk_a : Narrows model disks.a disks'.a
   pub disk_b : Narrows model disks.b disks'.b
+
+-- an end of `serve` where the store was not loaded: the same, and its status is this one
+abbrev pub IsRefusedAs : {D S K : Type 0} → DiskModel D → Disks D → Disks D → ℕ → End S K → End S K → Type 0
+IsRefusedAs model disks disks' status old new = IsRefused model disks disks' old new × (new.status ≡ status)

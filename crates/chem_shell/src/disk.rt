@@ -1,8 +1,8 @@
 //! `init` and `run`: a store on two disks.
-ghost use Rattle.std.specs.Prelude.{◌≡◌, ◌≢◌, ◌⊎◌};
-ghost use Rattle.disk_edge.specs.Disk.{Faulted};
+ghost use Rattle.std.specs.Prelude.{◌≡◌, ◌≢◌, ◌⊎◌, ◌≤◌, [], false, IfOk, length, OnErr, true};
+ghost use Rattle.disk_edge.specs.Disk.{Exactly, Faulted, IfTold};
 ghost use Rattle.disk_pair.specs.Term.{disk_a, disk_b};
-ghost use Rattle.journal_core.specs.Looks.{Narrows};
+ghost use Rattle.journal_core.specs.Looks.{Narrows, Stays};
 ghost use Rattle.store_disk.specs.Loads.{OpensTo};
 ghost use Rattle.store_disk.specs.OnDisk.{StandsFor};
 ghost use Rattle.store_disk.specs.declared.disks.Disks.{Disks as TheDisks};
@@ -18,7 +18,7 @@ ghost use Rattle.chem_shell.specs.Words.{IsWithinLimits};
 use crate::request::Plan;
 use crate::settings::settings;
 use crate::status::{DAMAGED, DISK_FAULT, DONE, NO_MEMORY, NOT_A_STORE, NOT_EMPTY, USAGE};
-use disk_edge::Disk;
+use disk_edge::{Disk, DiskFail};
 use io_edge::{Sink, Source};
 use journal_core::{CreateFault, Journal, LoadFault};
 use par_search::NoMeter;
@@ -30,16 +30,22 @@ use store_disk::{Disks, Store, a_standing_store_opens};
 use store_machine::{rebases_keep, replies_tell, runs_stay_sound};
 
 /// Makes an empty store on two empty disks: it is on disk `a`, and disk `b` stays empty. The disks come back, with the
-/// status.
+/// status. Disk `a` is asked first, and `b` only where `a` is empty. Disk `b` is synced before the store is made, so
+/// that no crash leaves another store on it.
 pub fn create<D: Disk + Drop>(disks: Disks<D>) -> (Disks<D>, u8)
     ensures creates { Creates D.model disks result.0 result.1 }
     ensures disk_fault { result.1 ≡ DISK_FAULT
         → Faulted D.model disks.a result.0.a ⊎ Faulted D.model disks.b result.0.b }
 {
-    let Disks { a, mut b } = disks;
-    match b.len() {
+    let Disks { mut a, mut b } = disks;
+    match a.len() {
         Ok(0) => {}
         Ok(_) => return (Disks { a, b }, NOT_EMPTY),
+        Err(_) => return (Disks { a, b }, DISK_FAULT),
+    }
+    match is_empty(&mut b) {
+        Ok(true) => {}
+        Ok(false) => return (Disks { a, b }, NOT_EMPTY),
         Err(_) => return (Disks { a, b }, DISK_FAULT),
     }
     let (a, created) = Journal::create(a);
@@ -50,6 +56,22 @@ pub fn create<D: Disk + Drop>(disks: Disks<D>) -> (Disks<D>, u8)
         Err(CreateFault::NoMemory) => NO_MEMORY,
     };
     (Disks { a, b }, status)
+}
+
+// Whether a disk has no bytes. It has none after a crash either then.
+fn is_empty<D: Disk>(disk: &mut D) -> Result<bool, DiskFail>
+    ensures yes { IfOk result (λ empty. empty ≡ true → IfTold (D.model.content disk.old)
+        (λ l. (l ≡ []) × Exactly [] (D.model.images disk.new))) }
+    ensures no { IfOk result (λ empty. empty ≡ false → Stays D.model disk.old disk.new
+        × IfTold (D.model.content disk.old) (λ l. 1 ≤ length l)) }
+    ensures failed { OnErr result (Faulted D.model disk.old disk.new) }
+    ensures narrows { Narrows D.model disk.old disk.new }
+{
+    if disk.len()? > 0 {
+        return Ok(false);
+    }
+    disk.sync()?;
+    Ok(true)
 }
 
 /// Serves an end over the store of two disks. The disks come back, with the place of damage on the one that is read.

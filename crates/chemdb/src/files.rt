@@ -4,7 +4,8 @@ ghost use Rattle.std.specs.Prelude.{◌<◌, ◌^◌, IfOk, length, ◌≡◌, N
 use chem_shell::{End, status};
 use io_edge::{PutFault, Sink, Source, StdSink, StdSource, Take};
 use std::alloc::{AllocError, Global};
-use std::fs::{File, Files, OpenOptions};
+use std::fs::{self, File, Files, Metadata, OpenOptions};
+use std::os::unix::fs::{FileExt, MetadataExt};
 
 /// A script's file, under a lock that other readers may share. Each read of one that could not be opened, or that is
 /// written elsewhere, fails.
@@ -60,9 +61,9 @@ impl Replies {
     }
 
     // What the file has goes.
-    fn create<R: Files<File = File>>(rt: &R, path: &str) -> Replies {
+    fn create<R: Files<File = File>>(rt: &R, path: &str, scripts: &[&str]) -> Replies {
         Replies {
-            file: emptied(rt, path).map(StdSink::new),
+            file: emptied(rt, path, scripts).map(StdSink::new),
             faults: 0,
         }
     }
@@ -87,16 +88,20 @@ impl Sink for Replies {
 
 /// An end for each script: it reads the file of that name, and its replies go to the file of that name with `.out`
 /// appended, which is made anew. All scripts are opened first, and what is locked is left as it is, so that no replies
-/// take the place of the store, of a script or of another's replies.
+/// take the place of the store, of a script or of another's replies. What begins as a store is left too. Without
+/// `has_store` the store may not be locked: no file is made or emptied then.
 pub fn script_ends<R: Files<File = File>>(
     rt: &R,
     alloc: Global,
     scripts: &[&str],
+    has_store: bool,
 ) -> Result<Vec<End<Script, Replies>>, AllocError>
     ensures { IfOk result (λ ends. length ends.items ≡ length scripts.now) }
 {
     let mut ends = open_scripts(rt, alloc, scripts)?;
-    create_replies(rt, alloc, scripts, &mut ends)?;
+    if has_store {
+        create_replies(rt, alloc, scripts, &mut ends)?;
+    }
     Ok(ends)
 }
 
@@ -130,7 +135,7 @@ fn create_replies<R: Files<File = File>>(
 {
     for (end, script) in ends.iter_mut().zip(scripts) {
         let replies = format!(in alloc; "{script}.out")?;
-        end.sink = Replies::create(rt, replies.as_str());
+        end.sink = Replies::create(rt, replies.as_str(), scripts);
     }
     Ok(())
 }
@@ -142,17 +147,68 @@ fn readable<R: Files<File = File>>(rt: &R, path: &str) -> Option<File> {
     Some(file)
 }
 
-// The file of this path for writing, made where nothing is there, and emptied where nothing else reads or writes it. A
-// pipe or a terminal stays as it is.
-fn emptied<R: Files<File = File>>(rt: &R, path: &str) -> Option<File> {
+// The file of this path for writing, made where nothing is there, and emptied where nothing else reads or writes it, it
+// is none of the scripts, of which one may not be open, and no store's. A pipe or a terminal stays as it is.
+fn emptied<R: Files<File = File>>(rt: &R, path: &str, scripts: &[&str]) -> Option<File> {
     let file = OpenOptions::new()
         .write(true)
         .create(true)
         .open(rt, path)
         .ok()?;
     file.try_lock().ok()?;
-    if file.metadata().ok()?.is_file() {
+    let found = file.metadata().ok()?;
+    if is_script(rt, &found, scripts) {
+        return None;
+    }
+    if found.is_file() {
+        if may_be_store(rt, path, &found) {
+            return None;
+        }
         file.set_len(0).ok()?;
     }
     Some(file)
+}
+
+// Whether one of the scripts' names leads to this file.
+fn is_script<R: Files<File = File>>(rt: &R, file: &Metadata, scripts: &[&str]) -> bool {
+    for script in scripts {
+        if let Ok(named) = fs::metadata(rt, script) {
+            if is_same(&named, file) {
+                return true;
+            }
+        }
+    }
+    false
+}
+
+// Whether both are of one file.
+fn is_same(a: &Metadata, b: &Metadata) -> bool {
+    a.dev() == b.dev() && a.ino() == b.ino()
+}
+
+// Whether the file of this path begins as a store does, or cannot be read. A shorter one is none.
+fn may_be_store<R: Files<File = File>>(rt: &R, path: &str, file: &Metadata) -> bool {
+    if file.len() < 8 {
+        return false;
+    }
+    match start_of(rt, path, file) {
+        Some(start) => is_start(&start),
+        None => true,
+    }
+}
+
+// The first bytes of the file of this path, which is this one.
+fn start_of<R: Files<File = File>>(rt: &R, path: &str, file: &Metadata) -> Option<[u8; 8]> {
+    let opened = File::open(rt, path).ok()?;
+    if !is_same(&opened.metadata().ok()?, file) {
+        return None;
+    }
+    let mut start = [0; 8];
+    opened.read_exact_at(&mut start, 0).ok()?;
+    Some(start)
+}
+
+// Whether these bytes begin a store, or a copy that was not finished, whose gate is shut: whatever the gate is.
+fn is_start(start: &[u8; 8]) -> bool {
+    matches!(start, [_, b'C', b'H', b'E', b'M', b'D', b'B', b'1' | b'2'])
 }

@@ -3,11 +3,13 @@
 
 ghost use Rattle.std.specs.Prelude.{◌≡◌, IfOk, length};
 
+mod disks;
 mod files;
 
+use crate::disks::{Opened, cut_other, open_disks};
 use crate::files::script_ends;
-use chem_shell::{End, Outcome, Plan, PlanFault, Verb, chemdb, plan, status, word_fault};
-use disk_edge::{Disk, FileDisk};
+use chem_shell::{End, Outcome, PlanFault, Verb, chemdb, plan, status, word_fault};
+use disk_edge::FileDisk;
 use disk_pair::{Which, which_is_read};
 use io_edge::{StdSink, StdSource};
 use std::alloc::{AllocError, Global};
@@ -104,45 +106,31 @@ where
         Err(PlanFault::Usage) => return Ok(status::USAGE),
         Err(PlanFault::NoMemory) => return Err(AllocError),
     };
-    let (a, b) = disks(rt, alloc, &plan)?;
+    let Opened {
+        path,
+        a,
+        b,
+        generation,
+    } = open_disks(rt, alloc, &plan)?;
     match plan.command {
         Verb::Serve => {
-            let ends = script_ends(rt, alloc, &plan.scripts)?;
-            Ok(status_told(rt, chemdb(rt, alloc, words, a, b, ends), plan.file))
+            let ends = script_ends(rt, alloc, &plan.scripts, generation.is_some())?;
+            Ok(finished(rt, chemdb(rt, alloc, words, a, b, ends), path, generation))
         }
         _ => {
             let ends = ends(rt, alloc, plan.ends)?;
-            Ok(status_told(rt, chemdb(rt, alloc, words, a, b, ends), plan.file))
+            Ok(finished(rt, chemdb(rt, alloc, words, a, b, ends), path, generation))
         }
     }
 }
 
-/// The disks of the store that the words name: its file, which `init` makes where it is not there, and the file of its
-/// name with `.2` appended, which is made where it is not there. The second is opened or made only beside a first that
-/// could be opened.
-fn disks<R: Files<File = File>>(
-    rt: &R,
-    alloc: Global,
-    plan: &Plan<'_>,
-) -> Result<(FileDisk, FileDisk), AllocError> {
-    let Some(path) = plan.file else {
-        return Ok((FileDisk::none(), FileDisk::none()));
-    };
-    let second = format!(in alloc; "{path}.2")?;
-    let mut a = FileDisk::at(rt, path, plan.command == Verb::Init);
-    let b = match a.len() {
-        Ok(_) => FileDisk::at(rt, second.as_str(), true),
-        Err(_) => FileDisk::none(),
-    };
-    Ok((a, b))
-}
-
 /// The overall status of an outcome. Where the store is damaged, it prints which of its files is, and from which byte
-/// on.
-fn status_told<R: Eprint, D: Disk + Drop, S: Drop, K: Drop>(
+/// on. After a run that went well and compacted the store, the file that is no longer read is cut.
+fn finished<R: Eprint, S: Drop, K: Drop>(
     rt: &R,
-    outcome: Outcome<D, S, K>,
-    file: Option<&str>,
+    outcome: Outcome<FileDisk, S, K>,
+    path: Option<String>,
+    generation: Option<u32>,
 ) -> u8 {
     let Outcome {
         a,
@@ -152,8 +140,16 @@ fn status_told<R: Eprint, D: Disk + Drop, S: Drop, K: Drop>(
         ..
     } = outcome;
     let (mut a, mut b) = (a, b);
+    if status == status::DONE {
+        if let Some(before) = generation {
+            cut_other(&mut a, &mut b, before);
+        }
+    }
     if status == status::DAMAGED {
-        let file = file.unwrap_or("the store");
+        let file = match &path {
+            Some(path) => path.as_str(),
+            None => "the store",
+        };
         let ending = match which_is_read(&mut a, &mut b) {
             Ok(Some(Which::Second)) => ".2",
             _ => "",

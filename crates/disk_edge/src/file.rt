@@ -7,18 +7,29 @@ ghost use Rattle.disk_edge.specs.Untold.{in_parts};
 
 use crate::disk::{Disk, DiskFail};
 use std::fs;
-use std::fs::{File, Files, OpenOptions};
+use std::fs::{File, Files, Metadata, OpenOptions};
+use std::io::ErrorKind;
 use std::marker::Model;
 use std::os::fd::AsRawFd;
-use std::os::unix::fs::FileExt;
+use std::os::unix::fs::{FileExt, MetadataExt};
 use std::path::Path;
 
 /// A file as a disk, locked as long as the disk is there. Each call on a file that could not be opened fails, and each
-/// failed call counts.
+/// failed call counts. After a sync that failed each call fails: the system may show bytes then that the device has not
+/// got, and takes them for written. The lock stays.
 #[derive(Drop)]
 pub struct FileDisk {
-    file: Option<File>,
+    file: Option<Held>,
+    lost: bool,
     faults: u64,
+}
+
+// What a disk has of a file that could be opened.
+#[derive(Drop)]
+enum Held {
+    Open(File),
+    // Nothing is there: no bytes, and no room for any.
+    Absent,
 }
 
 impl Model for FileDisk {
@@ -31,9 +42,10 @@ impl Model for FileDisk {
 
 impl FileDisk {
     /// The regular file of this path, for reading and writing, under an exclusive lock that the disk holds. With
-    /// `create` it is made where nothing is there, and its folder is synced. Where the path names something else,
-    /// another holds the lock, or a standard stream is closed, so that the file would stand for it, each call of the
-    /// disk fails; no byte of anything was changed then.
+    /// `create` it is made where nothing is there. It is settled: what a read gives from then on is what the device has,
+    /// also where an earlier program's sync failed. Where the path names something else, the file has a second name,
+    /// another holds the lock, it could not be settled, or a standard stream is closed, so that the file would stand for
+    /// it, each call of the disk fails; no byte of anything was changed then.
     pub fn at<R: Files<File = File>>(rt: &R, path: &str, create: bool) -> FileDisk
         ensures { result ≡ 0 }
     {
@@ -42,17 +54,52 @@ impl FileDisk {
         } else {
             found(rt, path)
         };
-        FileDisk { file, faults: 0 }
+        FileDisk::holding(file.map(Held::Open))
+    }
+
+    /// The file of this path where something is there, as `at` gives it. Else a disk without bytes, at which each read
+    /// and each write fails.
+    pub fn if_there<R: Files<File = File>>(rt: &R, path: &str) -> FileDisk
+        ensures { result ≡ 0 }
+    {
+        match fs::symlink_metadata(rt, path) {
+            Err(error) if error.kind() == ErrorKind::NotFound => FileDisk::holding(Some(
+                Held::Absent,
+            )),
+            _ => FileDisk::at(rt, path, false),
+        }
     }
 
     /// A file that could not be opened.
     pub fn none() -> FileDisk
         ensures { result ≡ 0 }
     {
+        FileDisk::holding(None)
+    }
+
+    /// Cuts the file to no bytes, and syncs it. No contract of a store allows it: it is for a file that is not read.
+    pub fn cut(&mut self) -> Result<(), DiskFail>
+        ensures { silent.Counted result self.old self.new }
+    {
+        let given = cut(self.usable());
+        self.lost = given.is_none();
+        self.counted(given)
+    }
+
+    // A disk without a fault.
+    fn holding(file: Option<Held>) -> FileDisk
+        ensures { result ≡ 0 }
+    {
         FileDisk {
-            file: None,
+            file,
+            lost: false,
             faults: 0,
         }
+    }
+
+    // What there is of the file, as long as no sync of it failed.
+    fn usable(&self) -> Option<&Held> {
+        if self.lost { None } else { self.file.as_ref() }
     }
 
     // What a call gave, and a fault where it gave nothing.
@@ -74,22 +121,23 @@ impl Disk for FileDisk {
     ghost model = { silent.model };
 
     fn len(&mut self) -> Result<u64, DiskFail> {
-        let given = length_of(&self.file);
+        let given = length_of(self.usable());
         self.counted(given)
     }
 
     fn read_at(&mut self, at: u64, room: &mut [u8]) -> Result<(), DiskFail> {
-        let given = read(&self.file, at, room);
+        let given = read(self.usable(), at, room);
         self.counted(given)
     }
 
     fn write_at(&mut self, at: u64, bytes: &[u8]) -> Result<(), DiskFail> {
-        let given = write(&self.file, at, bytes);
+        let given = write(self.usable(), at, bytes);
         self.counted(given)
     }
 
     fn sync(&mut self) -> Result<(), DiskFail> {
-        let given = sync(&self.file);
+        let given = sync(self.usable());
+        self.lost = given.is_none();
         self.counted(given)
     }
 
@@ -118,18 +166,27 @@ fn found<R: Files<File = File>>(rt: &R, path: &str) -> Option<File> {
         .write(true)
         .open(rt, path)
         .ok()?;
-    locked(file)
+    locked(rt, path, file)
 }
 
-// The file of this path, which is made where nothing is there, also no link. Its folder is opened before, so that no
-// file is made where a standard stream is closed.
+// The file of this path, which is made where nothing is there, also no link. A file without bytes may have been made by
+// a program that was stopped then, so its folder is synced too: before the first byte is written the name is kept.
 fn found_or_made<R: Files<File = File>>(rt: &R, path: &str) -> Option<File> {
+    if fs::symlink_metadata(rt, path).is_err() {
+        return made(rt, path);
+    }
+    let file = found(rt, path)?;
+    if file.metadata().ok()?.len() == 0 {
+        folder_at(rt, folder_of(path))?.sync_all().ok()?;
+    }
+    Some(file)
+}
+
+// A new file of this path. Its folder is opened before, so that no file is made where a standard stream is closed.
+fn made<R: Files<File = File>>(rt: &R, path: &str) -> Option<File> {
     let folder = folder_at(rt, folder_of(path))?;
-    let file = if fs::symlink_metadata(rt, path).is_ok() {
-        found(rt, path)?
-    } else {
-        locked(File::create_new(rt, path).ok()?)?
-    };
+    let file = File::create_new(rt, path).ok()?;
+    let file = locked(rt, path, file)?;
     folder.sync_all().ok()?;
     Some(file)
 }
@@ -155,14 +212,35 @@ fn folder_of(path: &str) -> &str {
     }
 }
 
-// The file, where it is a regular one, stands apart from the standard streams, and its lock was free.
-fn locked(file: File) -> Option<File> {
-    let is_file = file.metadata().ok()?.is_file();
-    if is_file && is_apart(&file) && file.try_lock().is_ok() {
+// The file, where it is a regular one, stands apart from the standard streams, its lock was free, the path still names
+// it, no hard link gives it a second name, by which it would have another second file, and it could be settled.
+fn locked<R: Files<File = File>>(rt: &R, path: &str, file: File) -> Option<File> {
+    if !is_apart(&file) || file.try_lock().is_err() {
+        return None;
+    }
+    let opened = file.metadata().ok()?;
+    let named = fs::metadata(rt, path).ok()?;
+    if opened.is_file() && opened.nlink() <= 1 && is_same(&opened, &named) {
+        settled(file)
+    } else {
+        None
+    }
+}
+
+// The file, with what was written to it on its device, and the system's copies of its pages dropped: a sync that failed,
+// perhaps another program's, leaves pages that the device has not got, and that the system takes for written.
+fn settled(file: File) -> Option<File> {
+    file.sync_all().ok()?;
+    if libc::posix_fadvise(file.as_raw_fd(), 0, 0, libc::POSIX_FADV_DONTNEED) == 0 {
         Some(file)
     } else {
         None
     }
+}
+
+// Whether both are of one file.
+fn is_same(a: &Metadata, b: &Metadata) -> bool {
+    a.dev() == b.dev() && a.ino() == b.ino()
 }
 
 // Whether a file has none of the descriptors of the standard streams.
@@ -170,18 +248,38 @@ fn is_apart(file: &File) -> bool {
     file.as_raw_fd() > 2
 }
 
-fn length_of(file: &Option<File>) -> Option<u64> {
-    Some(file.as_ref()?.metadata().ok()?.len())
+// The file that is open.
+fn open(held: Option<&Held>) -> Option<&File> {
+    match held? {
+        Held::Open(file) => Some(file),
+        Held::Absent => None,
+    }
 }
 
-fn read(file: &Option<File>, at: u64, room: &mut [u8]) -> Option<()> {
-    file.as_ref()?.read_exact_at(room, at).ok()
+fn length_of(held: Option<&Held>) -> Option<u64> {
+    match held? {
+        Held::Open(file) => Some(file.metadata().ok()?.len()),
+        Held::Absent => Some(0),
+    }
 }
 
-fn write(file: &Option<File>, at: u64, bytes: &[u8]) -> Option<()> {
-    file.as_ref()?.write_all_at(bytes, at).ok()
+fn read(held: Option<&Held>, at: u64, room: &mut [u8]) -> Option<()> {
+    open(held)?.read_exact_at(room, at).ok()
 }
 
-fn sync(file: &Option<File>) -> Option<()> {
-    file.as_ref()?.sync_all().ok()
+fn write(held: Option<&Held>, at: u64, bytes: &[u8]) -> Option<()> {
+    open(held)?.write_all_at(bytes, at).ok()
+}
+
+fn sync(held: Option<&Held>) -> Option<()> {
+    match held? {
+        Held::Open(file) => file.sync_all().ok(),
+        Held::Absent => Some(()),
+    }
+}
+
+fn cut(held: Option<&Held>) -> Option<()> {
+    let file = open(held)?;
+    file.set_len(0).ok()?;
+    file.sync_all().ok()
 }

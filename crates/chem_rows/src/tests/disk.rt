@@ -1,6 +1,6 @@
 //! `init` and `run` over disks in memory.
-use super::{ONE_COMMIT, PLAIN, call_on, disk_of, has_left, put_by, run, run_leaves};
-use disk_edge::{FileDisk, MemDisk};
+use super::{ONE_COMMIT, PLAIN, call, call_on, disk_of, has_left, put_by, run, run_leaves};
+use disk_edge::{Disk, FileDisk, MemDisk};
 use std::alloc::{AllocError, Global};
 use std::fs;
 use std::sync::Wait;
@@ -190,6 +190,53 @@ fn each_call_of_the_disk_fails_in_turn(rt: HostRuntime) -> Result<(), Fail> {
     let disks = (disk, MemDisk::new(alloc));
     let made = call_on(&rt, alloc, &["init", "f"], b"", PLAIN, disks)?;
     assert!(rt; made.status == 5);
+    Ok(())
+}
+
+// A disk without bytes, of which a crash may leave some, since a write of it failed.
+fn torn(alloc: Global) -> MemDisk {
+    let mut disk = MemDisk::new(alloc);
+    disk.fail_once(1);
+    let _ = disk.write_at(0, b"ZCHEMDB2\x01\0\0\0\0\0\0\0\0\0\0\0");
+    disk
+}
+
+#[test]
+fn no_crash_leaves_a_byte_on_the_second_disk_of_a_new_store(rt: HostRuntime) -> Result<(), Fail> {
+    let alloc = rt.alloc();
+    let mut might = false;
+    for choice in 0..6u32 {
+        might = might || !torn(alloc).image(choice).bytes().is_empty();
+        let disks = (MemDisk::new(alloc), torn(alloc));
+        let made = call_on(&rt, alloc, &["init", "f"], b"", PLAIN, disks)?;
+        assert!(rt;
+            made.status == 0 && made.b.image(choice).bytes().is_empty(),
+            "image {choice}"
+        );
+    }
+    assert!(rt; might);
+    Ok(())
+}
+
+#[test]
+fn the_first_disk_is_asked_first(rt: HostRuntime) -> Result<(), Fail> {
+    let alloc = rt.alloc();
+    let mut second = MemDisk::new(alloc);
+    second.fail_once(1);
+    let disks = (disk_of(alloc, ONE_COMMIT)?, second);
+    let made = call_on(&rt, alloc, &["init", "f"], b"", PLAIN, disks)?;
+    assert!(rt; made.status == 10);
+    Ok(())
+}
+
+#[test]
+fn each_end_has_the_status_of_a_store_that_is_not_loaded(rt: HostRuntime) -> Result<(), Fail> {
+    let words = ["serve", "f", "x", "y"];
+    let answer = call(&rt, rt.alloc(), &words, b"stats\n", PLAIN)?;
+    assert!(rt; answer.status == 6 && answer.ends.len() == 2);
+    for end in &answer.ends {
+        assert!(rt; end.status == 6);
+    }
     Ok(())
 }
 

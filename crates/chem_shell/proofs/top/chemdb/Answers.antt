@@ -1,7 +1,9 @@
-use Rattle.std.proofs.Common.{refl, ap, ◌∙◌, sym, inl, inr, Err}
+use Rattle.std.proofs.Common.{refl, ap, ◌∙◌, sym, subst, inl, inr, Err, ℕ}
+use Rattle.std.specs.List.{AllZip}
 use Rattle.std.proofs.lemmas.Bool.{eqb-false}
 use Rattle.chem_shell.specs.Contents.{disks_of}
 use Rattle.chem_shell.specs.Ends.{HasEndCauses, with_status}
+use Rattle.chem_shell.specs.OnDisks.{IsRefusedAs}
 use Rattle.chem_shell.specs.declared.request.Verb.TheVariants.{Mem, Init, Run, Serve, Bulk, Drill}
 use Rattle.chem_shell.proofs.Asked.{one_plan, plan_within}
 use Rattle.chem_shell.proofs.Drills.{drill_same, drill_unmoved}
@@ -67,7 +69,7 @@ returns-in-Err-NoMemory-clause-init g c = λ plan asks verb. (
   none_mapped (with_status 8) _ _ (no_ends c.args.ends.items _ plan asks verb c.requires.ends) c.unserved-in-Err-NoMemory.ensures.ends,
   creates_nothing g.D.Disk.model (record { a = c.args.a; b = c.args.b }) (disks_of c.unserved-in-Err-NoMemory.result)
       c.unserved-in-Err-NoMemory.result.status c.unserved-in-Err-NoMemory.ensures.status
-      c.unserved-in-Err-NoMemory.ensures.disks,
+      c.unserved-in-Err-NoMemory.ensures.disks c.unserved-in-Err-NoMemory.ensures.read_b,
 )
 
 pub returns-in-Err-NoMemory-clause-run : goal.returns-in-Err-NoMemory-clause-run
@@ -80,9 +82,11 @@ returns-in-Err-NoMemory-clause-run g c = λ plan asks verb.
 pub returns-in-Err-NoMemory-clause-serve : goal.returns-in-Err-NoMemory-clause-serve
 returns-in-Err-NoMemory-clause-serve g c = λ plan asks verb.
     let r = c.unserved-in-Err-NoMemory.ensures in
-    inl (refused_all g.D.Disk.model g.S.Source.left g.S.Source.faults g.K.Sink.written g.K.Sink.faults
-    (record { a = c.args.a; b = c.args.b }) (disks_of c.unserved-in-Err-NoMemory.result) 8 _ _ (inr (inr (inr refl)))
-    r.read_a r.read_b r.ends)
+    let new = c.unserved-in-Err-NoMemory.result in
+    inl (subst (λ (n : ℕ). AllZip (IsRefusedAs g.D.Disk.model (record { a = c.args.a; b = c.args.b }) (disks_of new) n)
+    c.args.ends.items new.ends.items) (sym r.status)
+    (refused_all g.D.Disk.model g.S.Source.left g.S.Source.faults g.K.Sink.written g.K.Sink.faults
+    (record { a = c.args.a; b = c.args.b }) (disks_of new) 8 _ _ (inr (inr (inr refl))) r.read_a r.read_b r.ends))
 
 pub returns-in-Err-NoMemory-clause-bulk : goal.returns-in-Err-NoMemory-clause-bulk
 returns-in-Err-NoMemory-clause-bulk g c = λ plan asks verb. (
@@ -170,7 +174,8 @@ returns-in-Ok-clause-serve g c = λ plan asks verb.
     c.in-Ok.plan.command Serve c.in-Ok.plan (record { a = c.args.a; b = c.args.b }) c.args.ends.items c.carry_out.result
     (sym same.command ∙ verb) c.carry_out.ensures.leaves in
     serves_same g.D.Disk.model (record { a = c.args.a; b = c.args.b }) (disks_of c.carry_out.result) g.S.Source.left
-    g.K.Sink.written plan c.in-Ok.plan c.args.ends.items c.carry_out.result.ends.items same.commits same.page left
+    g.K.Sink.written plan c.in-Ok.plan c.carry_out.result.status c.args.ends.items c.carry_out.result.ends.items
+    same.commits same.page left
 
 pub returns-in-Ok-clause-bulk : goal.returns-in-Ok-clause-bulk
 returns-in-Ok-clause-bulk g c = λ plan asks verb.
