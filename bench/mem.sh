@@ -1,20 +1,20 @@
 #!/usr/bin/env bash
 # Registers drug-like structures in memory and searches them; prints registrations per second, memory for each record, and
 # nanoseconds for each record of a search, the least of ten runs each. Script and replies are files: through a pipe each
-# reply wakes the reader, which costs a few microseconds more.
-# Usage: bench/mem.sh [STRUCTURES]
+# reply wakes the reader, which costs a few microseconds more. Memory is the greatest that the program itself had in use
+# (VmHWM of /proc/PID/status), read while its input is still open, less that of a store without records.
+# Usage: bench/mem.sh [STRUCTURES [PROGRAM]]; without PROGRAM, ./build builds it where it is not built
 set -euo pipefail
 cd "$(dirname "${BASH_SOURCE[0]}")/.."
-./build
-python3 - "${1:-20000}" <<'PY'
-import os
-import resource
+[ -n "${2-}" ] || ./build
+python3 - "${1:-20000}" "${2:-crates/chemdb/out/chemdb}" <<'PY'
 import subprocess
 import sys
 import tempfile
+import threading
 import time
 
-PROGRAM = "crates/chemdb/out/chemdb"
+PROGRAM = sys.argv[2]
 DRUGS = [
     "CC(C)Cc1ccc(cc1)C(C)C(=O)NCCN1CCOCC1",
     "Cc1ccc(NC(=O)c2ccc(CN3CCN(C)CC3)cc2)cc1Nc1nccc(-c2cccnc2)n1",
@@ -32,7 +32,7 @@ RUNS = 10
 
 
 def run(script):
-    """Seconds, the peak memory in bytes, and the last line."""
+    """Seconds, and the last line."""
     with tempfile.TemporaryFile() as lines, tempfile.TemporaryFile() as replies:
         lines.write(script.encode())
         lines.seek(0)
@@ -44,22 +44,33 @@ def run(script):
         return seconds, (replies.read().decode().splitlines() or [""])[-1]
 
 
+def write(process, script):
+    process.stdin.write(script)
+    process.stdin.flush()
+
+
 def peak(script):
-    reader, writer = os.pipe()
-    child = os.fork()
-    if child == 0:
-        run(script)
-        os.write(writer, str(resource.getrusage(resource.RUSAGE_CHILDREN).ru_maxrss).encode())
-        os._exit(0)
-    os.waitpid(child, 0)
-    return int(os.read(reader, 64)) * 1024
+    """The most memory in bytes that the program had in use, once it has answered each line with one line."""
+    process = subprocess.Popen([PROGRAM, "mem"], stdin=subprocess.PIPE, stdout=subprocess.PIPE)
+    writer = threading.Thread(target=write, args=(process, (script + "stats\n").encode()))
+    writer.start()
+    while not process.stdout.readline().startswith(b"stats "):
+        pass
+    writer.join()
+    with open(f"/proc/{process.pid}/status", encoding="utf-8") as status:
+        kibibytes = next(int(line.split()[1]) for line in status if line.startswith("VmHWM"))
+    process.stdin.close()
+    assert process.wait() == 0
+    return kibibytes * 1024
 
 
 count = int(sys.argv[1])
 registers = "".join(f"register {i + 1} {DRUGS[i % len(DRUGS)]}\n" for i in range(count))
 alone = min(run(registers)[0] for _ in range(RUNS))
-record = (peak(registers) - peak("")) / count
-print(f"{count} structures of 17 to 37 atoms: {count / alone:,.0f} registrations per second, {record:,.0f} bytes for each record")
+most = peak(registers)
+record = (most - peak("")) / count
+print(f"{count} structures of 17 to 37 atoms: {count / alone:,.0f} registrations per second")
+print(f"memory: {most / 2**20:.1f} MiB, {record:,.0f} bytes for each record")
 for pattern in ["C(=O)[OX2H]", "[NX3;H2]", "c1ccccc1"]:
     with_searches = min(run(registers + f"search {pattern}\n" * SEARCHES) for _ in range(RUNS))
     each = (with_searches[0] - alone) / SEARCHES / count

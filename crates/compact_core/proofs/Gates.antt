@@ -50,7 +50,7 @@ gate_kept at n gate d c le torn is =
     sym (take-take 1 (min at (length d)) c (omega (arith, le, some))) ∙ ap (λ (k : List ℕ). take 1 k) torn.before
     ∙ take-take 1 at d le ∙ is
 
-same_byte : (a b : ℕ) → a ∷ [] ≡ b ∷ [] → a ≡ b
+pub same_byte : (a b : ℕ) → a ∷ [] ≡ b ∷ [] → a ≡ b
 same_byte a b is = cc is
 
 -- what begins with a gate that is not open is not open

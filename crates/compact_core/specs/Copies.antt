@@ -1,5 +1,5 @@
 -- What a running copy has, and what a disk has that is the complete copy or not open. For callers.
-use Rattle.std.specs.Prelude.{◌≡◌, ◌≢◌, ◌⊎◌, ◌+◌, ℕ, List, [], ◌∷◌, ◌++◌, length, take, Some}
+use Rattle.std.specs.Prelude.{◌≡◌, ◌≢◌, ◌⊎◌, ◌+◌, ℕ, List, [], ◌∷◌, ◌++◌, drop, length, take, Some}
 use Rattle.std.specs.List.{AllByRecursion}
 use Rattle.disk_edge.specs.Disk.{DiskModel, Exactly, IfTold}
 use Rattle.journal_core.specs.Records.{IsShort, records, Opens}
@@ -11,6 +11,10 @@ use Rattle.compact_core.specs.Carrying.{Carrying}
 -- the content, where the disk tells it, is the only image
 abbrev pub IsSynced : {D : Type 0} → DiskModel D → D → Type 0
 IsSynced model disk = IfTold (model.content disk) (λ l. Exactly l (model.images disk))
+
+-- these bytes are at a place, and more may be behind them
+abbrev pub IsAt : ℕ → List ℕ → List ℕ → Type 0
+IsAt place bytes l = (rest : List ℕ) × (drop place l ≡ bytes ++ rest)
 
 -- what stands behind the gate of the header
 unfoldable pub tail_of : Header → List (List ℕ) → List (List ℕ) → List ℕ

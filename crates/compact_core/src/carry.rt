@@ -74,7 +74,7 @@ impl<D: Disk> Model for Carry<D> {
 
     ghost invariant = { λ c. IfTold (D.model.content c.disk)
         (λ l. c.place ≤ length l + length c.pending.items)
-        × (length c.pending.items ≤ c.place) × (c.place ≤ 2 ^ 62 + 1048581) };
+        × (length c.pending.items ≤ c.place) × (1 ≤ c.place) × (c.place ≤ 2 ^ 62 + 1048581) };
 }
 
 impl<D: Disk> Carry<D> {

@@ -4,7 +4,7 @@ ghost use Rattle.std.specs.Prelude.{◌≡◌, ◌<◌, ◌≤◌, ◌+◌, ◌^
 ghost use Rattle.disk_edge.specs.Disk.{IfTold, Keeps, OnFailed, Counted, Faulted};
 ghost use Rattle.disk_edge.specs.Moments.{AtEachMoment};
 ghost use Rattle.journal_core.specs.declared.format.TheConstants.{CLOSED};
-ghost use Rattle.compact_core.specs.Copies.{Gathered, IsSynced, Stands};
+ghost use Rattle.compact_core.specs.Copies.{Gathered, IsAt, IsSynced, Stands};
 
 use disk_edge::{Disk, DiskFail};
 use journal_core::CLOSED;
@@ -17,6 +17,7 @@ pub(crate) fn extend<D: Disk>(disk: &mut D, place: u64, bytes: &[u8]) -> Result<
     ensures ok { OnOk result ((gate : ℕ) (tail : List ℕ)
         → Stands D.model disk.old gate tail → place ≡ length tail + 1
         → Stands D.model disk.new gate (tail ++ bytes.now)) }
+    ensures wrote { OnOk result (IfTold (D.model.content disk.new) (IsAt place bytes.now)) }
     ensures reaches { OnOk result (IfTold (D.model.content disk.new)
         (λ l. place + length bytes.now ≤ length l)) }
     ensures long { IfTold (D.model.content disk.new) (λ l. place ≤ length l) }
@@ -50,6 +51,7 @@ pub(crate) fn seal<D: Disk>(disk: &mut D, place: u64, pending: &mut Vec<u8>) -> 
         → Gathered D.model disk.old gate tail pending.old.items → place ≡ length tail + 1
         → Stands D.model disk.new gate (tail ++ CLOSED ∷ [])) }
     ensures synced { OnOk result (IsSynced D.model disk.new) }
+    ensures closed { OnOk result (IfTold (D.model.content disk.new) (IsAt place (CLOSED ∷ []))) }
     ensures reaches { OnOk result (IfTold (D.model.content disk.new) (λ l. place < length l)) }
     ensures long { IfTold (D.model.content disk.new)
         (λ l. place ≤ length l + length pending.old.items) }
@@ -81,6 +83,7 @@ fn extend_closed<D: Disk>(disk: &mut D, place: u64, pending: &mut Vec<u8>) -> Re
     ensures ok { OnOk result ((gate : ℕ) (tail : List ℕ)
         → Gathered D.model disk.old gate tail pending.old.items → place ≡ length tail + 1
         → Stands D.model disk.new gate (tail ++ CLOSED ∷ [])) }
+    ensures closed { OnOk result (IfTold (D.model.content disk.new) (IsAt place (CLOSED ∷ []))) }
     ensures reaches { OnOk result (IfTold (D.model.content disk.new) (λ l. place < length l)) }
     ensures long { IfTold (D.model.content disk.new)
         (λ l. place ≤ length l + length pending.old.items) }

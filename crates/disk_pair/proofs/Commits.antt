@@ -9,7 +9,7 @@ use Rattle.disk_pair.specs.Puts.{IsOther, ShowsDoubt, ShowsOne}
 use Rattle.disk_pair.specs.Stands.{Has}
 use Rattle.disk_pair.proofs.Readings.{Shows, reads_copy, reads_current}
 
-opens_as : (h : History) (front : List ℕ) → IsFront h.header h.base front → (x : List ℕ) → Opens front h.commits x
+pub opens_as : (h : History) (front : List ℕ) → IsFront h.header h.base front → (x : List ℕ) → Opens front h.commits x
     → OpensAs h x
 opens_as h front is x opens = record { front = front; is = is; opens = opens }
 

@@ -1,6 +1,7 @@
 mod Calls
 mod Commits
 mod Copying
+mod Doubtful
 mod Ends
 mod Lifts
 mod OnePair

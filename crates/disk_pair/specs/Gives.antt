@@ -1,5 +1,5 @@
 -- What a call on two disks leaves, by its answer. For callers.
-use Rattle.std.specs.Prelude.{◌≡◌, ◌⊎◌, [], Err, false, List, None, Ok, Option, Result, Some, true, ℕ}
+use Rattle.std.specs.Prelude.{◌≡◌, ◌⊎◌, [], Bool, Err, false, List, None, Ok, Option, Result, Some, true, ℕ}
 use Rattle.disk_edge.specs.Disk.{DiskModel, Faulted}
 use Rattle.journal_core.specs.declared.header.Header.{Header}
 use Rattle.disk_pair.specs.Pairs.{History, MayShow, PairOpensTo, State, with_commit}
@@ -54,6 +54,21 @@ abbrev pub progress_after : Result (Unit {0}) PutFault → Option Progress → O
 progress_after (Ok _) old new = new
 progress_after (Err (DiskFault doubt)) old new = None
 progress_after (Err NoMemory) old new = old
+
+-- Whether the journal is in doubt after a commit, also over a disk that tells no content: exactly where this commit is,
+-- or an older one may be still.
+abbrev pub DoubtAfter : Result (Unit {0}) PutFault → Bool → Bool → Type 0
+DoubtAfter (Ok _) old new = new ≡ false
+DoubtAfter (Err (DiskFault true)) old new = new ≡ true
+DoubtAfter (Err (DiskFault false)) old new = new ≡ true → old ≡ true
+DoubtAfter (Err NoMemory) old new = new ≡ true → old ≡ true
+
+-- P holds where what was asked for is in doubt
+abbrev pub OnDoubt : Result (Unit {0}) PutFault → Type 0 → Type 0
+OnDoubt (Ok _) P = Unit {0}
+OnDoubt (Err (DiskFault true)) P = P
+OnDoubt (Err (DiskFault false)) P = Unit {0}
+OnDoubt (Err NoMemory) P = Unit {0}
 
 -- P holds at a fault of a disk
 abbrev pub OnFault : Result (Unit {0}) PutFault → Type 0 → Type 0

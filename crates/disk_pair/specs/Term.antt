@@ -19,6 +19,11 @@ abbrev pub disk_of : {D : Type 0} → Other D → D
 disk_of (Idle disk doubtful) = disk
 disk_of (Copy carry) = carry.disk
 
+-- whether a finish may be in doubt there
+abbrev pub is_doubtful : {D : Type 0} → Other D → Bool
+is_doubtful (Idle disk doubtful) = doubtful
+is_doubtful (Copy carry) = false
+
 -- the first of two disks of which one is current
 abbrev pub first_of : {D : Type 0} → Bool → D → D → D
 first_of false current other = current
@@ -85,3 +90,8 @@ AtEachPair model old new P = IfTold (model.content (disk_a new)) (λ _. IfTold (
 abbrev pub OfEachPair : {D : Type 0} → DiskModel D → Paired D → (List ℕ → List ℕ → Type 0) → Type 0
 OfEachPair model pair P = IfTold (model.content (disk_a pair)) (λ _. IfTold (model.content (disk_b pair)) (λ _.
     (x y : List ℕ) → model.images (disk_a pair) x → model.images (disk_b pair) y → P x y))
+
+-- P of some two images that a crash now may leave, where both disks tell their contents
+abbrev pub OfSomePair : {D : Type 0} → DiskModel D → Paired D → (List ℕ → List ℕ → Type 0) → Type 0
+OfSomePair model pair P = IfTold (model.content (disk_a pair)) (λ _. IfTold (model.content (disk_b pair)) (λ _.
+    (x y : List ℕ) × model.images (disk_a pair) x × model.images (disk_b pair) y × P x y))

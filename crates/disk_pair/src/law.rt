@@ -1,13 +1,13 @@
 //! What two disks open to.
 
-ghost use Rattle.std.specs.Prelude.{◌≡◌, ◌⊎◌, ◌++◌, ◌∷◌, ℕ, List};
+ghost use Rattle.std.specs.Prelude.{◌≡◌, ◌⊎◌, ◌++◌, ◌∷◌, ℕ, List, None, Some};
 ghost use Rattle.std.specs.List.{AllByRecursion};
 ghost use Rattle.journal_core.specs.Fronts.{IsFront, IsOpen};
 ghost use Rattle.journal_core.specs.Records.{IsShort, prefix};
 ghost use Rattle.journal_core.specs.declared.format.TheConstants.{CLOSED};
-ghost use Rattle.disk_pair.specs.Pairs.{History, MayShow, PairOpens, PairOpensTo, Picks, State};
+ghost use Rattle.disk_pair.specs.Pairs.{History, MayShow, PairOpens, PairOpensTo, Picks, State, with_commit};
 ghost use Rattle.disk_pair.specs.Stands.{StandsFor};
-ghost use Rattle.disk_pair.specs.Term.{OfEachPair};
+ghost use Rattle.disk_pair.specs.Term.{OfEachPair, OfSomePair};
 
 use crate::pair::Pair;
 use disk_edge::Disk;
@@ -29,4 +29,13 @@ pub fn a_pair_opens_one_way()
 pub fn a_crash_leaves_one<D: Disk>(_pair: &Pair<D>)
     ensures { (s : State) → StandsFor D.model _pair.now s
         → OfEachPair D.model _pair.now (PairOpensTo (MayShow s)) }
+{}
+
+/// A crash now may leave what is in doubt: some two images open with the commit in doubt, where no finish is in doubt
+/// too, and some two to the copy whose finish is in doubt.
+pub fn a_crash_may_leave_a_doubt<D: Disk>(_pair: &Pair<D>)
+    ensures commit { (s : State) (p : List ℕ) → StandsFor D.model _pair.now s → s.commit ≡ Some p
+        → s.finish ≡ None → OfSomePair D.model _pair.now (PairOpens (with_commit s.now p)) }
+    ensures finish { (s : State) (h : History) → StandsFor D.model _pair.now s → s.finish ≡ Some h
+        → OfSomePair D.model _pair.now (PairOpens h) }
 {}

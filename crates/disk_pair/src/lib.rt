@@ -17,6 +17,6 @@ mod put;
 
 pub use choice::Which;
 pub use fault::PutFault;
-pub use law::{a_crash_leaves_one, a_pair_opens_one_way};
+pub use law::{a_crash_leaves_one, a_crash_may_leave_a_doubt, a_pair_opens_one_way};
 pub use opening::{Picked, load, which_is_read};
 pub use pair::Pair;

@@ -1,7 +1,7 @@
 //! Two disks are opened: one of them is picked, and its journal is read.
 
 ghost use Rattle.std.specs.Prelude.{◌≡◌, ◌⊎◌, None, IfErr, IfOk};
-ghost use Rattle.disk_edge.specs.Disk.{Exactly, Faulted, IfTold};
+ghost use Rattle.disk_edge.specs.Disk.{Exactly, Faulted, IfTold, OnNoMemory};
 ghost use Rattle.journal_core.specs.Fronts.{IsOpen};
 ghost use Rattle.journal_core.specs.Looks.{Narrows};
 ghost use Rattle.disk_pair.specs.Choices.{Chosen, IsRead};
@@ -103,6 +103,7 @@ pub fn which_is_read<D: Disk>(a: &mut D, b: &mut D) -> Result<Option<Which>, Dis
     ensures synced_b { IfOk result (λ _. IfTold (D.model.content b.new)
         (λ y. Exactly y (D.model.images b.new))) }
     ensures cause { IfErr result (λ _. Faulted D.model a.old a.new ⊎ Faulted D.model b.old b.new) }
+    ensures no_memory { OnNoMemory result ⊥ }
     ensures narrows_a { Narrows D.model a.old a.new }
     ensures narrows_b { Narrows D.model b.old b.new }
 {

@@ -5,11 +5,11 @@ ghost use Rattle.disk_edge.specs.Disk.{Faulted, IfTold};
 ghost use Rattle.journal_core.specs.Fronts.{IsFront, front_of};
 ghost use Rattle.journal_core.specs.Journal.{Rests};
 ghost use Rattle.journal_core.specs.Records.{IsShort};
-ghost use Rattle.disk_pair.specs.Gives.{OnFault, progress_after};
+ghost use Rattle.disk_pair.specs.Gives.{OnDoubt, OnFault, progress_after};
 ghost use Rattle.disk_pair.specs.Pairs.{History, with_base, with_commit};
 ghost use Rattle.disk_pair.specs.Puts.{AddsTo, BesideFault, BesideStart, EndsFinish, OtherMoments, after_finish};
 ghost use Rattle.disk_pair.specs.Stands.{Beside, Carries};
-ghost use Rattle.disk_pair.specs.Term.{Goes, disk_of, progress_of};
+ghost use Rattle.disk_pair.specs.Term.{Goes, disk_of, is_doubtful, progress_of};
 ghost use Rattle.disk_pair.specs.declared.other.Other.TheVariants.{Idle, Copy};
 ghost use Rattle.disk_pair.specs.declared.fault.PutFault.TheVariants.{DiskFault, NoMemory};
 
@@ -194,6 +194,7 @@ pub(crate) fn finish<D: Disk>(carry: Carry<D>) -> Result<Journal<D>, (Other<D>, 
         → OtherMoments D.model carry.disk (after_finish result) second g (Some h) }
     ensures progress { IfErr result (λ e. progress_of e.0
         ≡ progress_after (Err e.1) (progress_of (Copy carry)) None) }
+    ensures doubtful { IfErr result (λ e. OnDoubt (Err e.1) (is_doubtful e.0 ≡ true)) }
     ensures goes { Goes D.model carry.disk (after_finish result) }
     ensures cause { IfErr result (λ e. OnFault (Err e.1)
         (Faulted D.model carry.disk (after_finish result))) }

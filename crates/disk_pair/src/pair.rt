@@ -5,11 +5,11 @@
 ghost use Rattle.std.specs.Prelude.{◌≡◌, ◌<◌, ◌≤◌, ◌+◌, ◌^◌, ◌⊎◌, [], Option, false, true, Some, None, length, not, is_some, OnErr, OnOk};
 ghost use Rattle.journal_core.specs.Records.{IsShort};
 ghost use Rattle.disk_pair.specs.Changed.{changed};
-ghost use Rattle.disk_pair.specs.Gives.{AppendGives, CopyGives, CurrentStays, FinishGives, PairGoes, StartGives, progress_after};
+ghost use Rattle.disk_pair.specs.Gives.{AppendGives, CopyGives, CurrentStays, DoubtAfter, FinishGives, OnDoubt, PairGoes, StartGives, progress_after};
 ghost use Rattle.disk_pair.specs.Pairs.{History, MayShow, PairOpensTo, State, with_base, with_commit};
 ghost use Rattle.disk_pair.specs.Puts.{EndsFinish};
 ghost use Rattle.disk_pair.specs.Stands.{StandsFor};
-ghost use Rattle.disk_pair.specs.Term.{AtEachPair, HasRoom, IsBased, LacksBase, OfEachPair, disk_a, disk_b, first_of, further, next_header, progress_of};
+ghost use Rattle.disk_pair.specs.Term.{AtEachPair, HasRoom, IsBased, LacksBase, OfEachPair, disk_a, disk_b, first_of, further, is_doubtful, next_header, progress_of};
 ghost use Rattle.disk_pair.specs.declared.other.Other.TheVariants.{Idle};
 
 use crate::choice::Which;
@@ -87,6 +87,7 @@ impl<D: Disk + Drop> Pair<D> {
         ensures moved { OnOk result
             (self.new.journal.place ≡ self.old.journal.place + 5 + length payload.now) }
         ensures stays { OnErr result (self.new.journal.place ≡ self.old.journal.place) }
+        ensures in_doubt { DoubtAfter result self.old.journal.doubt self.new.journal.doubt }
         ensures header { self.new.journal.header ≡ self.old.journal.header }
         ensures progress { progress_of self.new.other ≡ progress_of self.old.other }
         ensures second { self.new.second ≡ self.old.second }
@@ -200,6 +201,8 @@ impl<D: Disk + Drop> Pair<D> {
           place = self.new.journal.place;
           bases = self.new.journal.header.base_count;
         })) }
+        ensures settled { OnOk result (self.new.journal.doubt ≡ false) }
+        ensures doubtful { OnDoubt result (is_doubtful self.new.other ≡ true) }
         ensures stays { OnErr result (self.new.journal ≡ self.old.journal) }
         ensures progress { progress_of self.new.other
             ≡ progress_after result (progress_of self.old.other) None }

@@ -5,7 +5,7 @@ ghost use Rattle.disk_edge.specs.Disk.{Faulted, IfTold, OnFailed};
 ghost use Rattle.disk_edge.specs.Moments.{AtEachMoment};
 ghost use Rattle.journal_core.specs.Records.{IsShort};
 ghost use Rattle.disk_pair.specs.Stands.{Has};
-ghost use Rattle.disk_pair.specs.Gives.{OnFault};
+ghost use Rattle.disk_pair.specs.Gives.{DoubtAfter, OnFault};
 ghost use Rattle.disk_pair.specs.Puts.{PutGives, ShowsDoubt, ShowsOne};
 ghost use Rattle.disk_pair.specs.Term.{Goes};
 
@@ -29,6 +29,7 @@ pub(crate) fn put<D: Disk>(journal: &mut Journal<D>, payload: &[u8]) -> Result<(
         journal.old.disk journal.new.disk (ShowsOne front ps doubt payload.now)) }
     ensures goes { Goes D.model journal.old.disk journal.new.disk }
     ensures cause { OnFault result (Faulted D.model journal.old.disk journal.new.disk) }
+    ensures in_doubt { DoubtAfter result journal.old.doubt journal.new.doubt }
     ensures ready { journal.new.ready ≡ true }
     ensures header { journal.new.header ≡ journal.old.header }
     ensures moved { OnOk result (journal.new.place ≡ journal.old.place + 5 + length payload.now) }
@@ -63,6 +64,7 @@ fn settle<D: Disk>(journal: &mut Journal<D>) -> Result<(), DiskFail>
         journal.old.disk journal.new.disk (ShowsDoubt front ps doubt)) }
     ensures goes { Goes D.model journal.old.disk journal.new.disk }
     ensures settled { OnOk result (journal.new.doubt ≡ false) }
+    ensures in_doubt { OnErr result (journal.new.doubt ≡ journal.old.doubt) }
     ensures cause { OnFailed result (Faulted D.model journal.old.disk journal.new.disk) }
     ensures ready { journal.new.ready ≡ true }
     ensures header { journal.new.header ≡ journal.old.header }

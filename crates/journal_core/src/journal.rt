@@ -1,13 +1,13 @@
 //! A journal that is appended to. `append` reads in the order of an atomic commit: the record is written behind a gate
 //! that is not open, with a closed gate behind it, and synced; then the gate is opened, and synced.
 
-ghost use Rattle.std.specs.Prelude.{◌≡◌, ◌<◌, ◌≤◌, ◌+◌, ◌^◌, [], ◌∷◌, ◌++◌, ℕ, List, None, Some, true, false, length, OnOk, OnErr, IfOk};
+ghost use Rattle.std.specs.Prelude.{◌≡◌, ◌≢◌, ◌<◌, ◌≤◌, ◌+◌, ◌^◌, [], ◌∷◌, ◌++◌, ℕ, List, None, Some, drop, take, true, false, length, OnOk, OnErr, IfOk};
 ghost use Rattle.disk_edge.specs.Disk.{IfTold, Keeps, OnFailed, OnNoMemory, Counted, Faulted};
 ghost use Rattle.disk_edge.specs.Moments.{AtEachMoment};
 ghost use Rattle.journal_core.specs.Answers.{OnSure, OnDoubt, OnWant, is_doubt};
 ghost use Rattle.journal_core.specs.Journal.{Rests, Doubts};
 ghost use Rattle.journal_core.specs.Records.{Opens, IsShort, body, BeforeOrAfter};
-ghost use Rattle.journal_core.specs.declared.format.TheConstants.{CLOSED};
+ghost use Rattle.journal_core.specs.declared.format.TheConstants.{CLOSED, OPEN};
 
 use crate::faults::AppendFault;
 use crate::format::{CLOSED, OPEN};
@@ -52,9 +52,10 @@ impl<D: Disk> Model for Journal<D> {
 
 impl<D: Disk> Journal<D> {
     /// A journal at a gate that is not open, which may be appended to: the gate is at this place of the disk, and the
-    /// header is the disk's. Takes no memory.
+    /// header is the disk's. An open gate is refused, since an append would write over its record. Takes no memory.
     pub fn at_gate(alloc: Global, disk: D, header: Header, place: u64) -> Journal<D>
         requires gate { IfTold (D.model.content disk) (λ l. place < length l) }
+        requires shut { IfTold (D.model.content disk) (λ l. take 1 (drop place l) ≢ OPEN ∷ []) }
         ensures { result ≡ record {
           disk = disk;
           header = header;

@@ -91,7 +91,7 @@ impl<D: Disk> Journal<D> {
 
         ensures record { OnRecord result (λ at payload. (at ≡ self.old.place) × IsShort payload
             × (1 ≤ length payload) × (self.new.place ≡ at + 4 + length payload)
-            × (self.new.left + 1 ≡ self.old.left)) }
+            × (self.new.left + 1 ≡ self.old.left) × (self.new.ready ≡ false)) }
         ensures reads { OnRecord result (λ at payload. (base : List (List ℕ))
             → Reads D.model self.old (front_of self.old.header base) []
             → Reads D.model self.new (front_of self.old.header (base ++ payload ∷ [])) []) }
@@ -105,7 +105,7 @@ impl<D: Disk> Journal<D> {
 
         ensures some_left { OnErr result (1 ≤ self.old.left) }
         ensures stays { OnErr result ((self.new.place ≡ self.old.place)
-            × (self.new.left ≡ self.old.left)) }
+            × (self.new.left ≡ self.old.left) × (self.new.ready ≡ self.old.ready)) }
         ensures still_reads { OnErr result ((front : List ℕ)
             → Reads D.model self.old front [] → Reads D.model self.new front []) }
         ensures below { self.new.place < 2 ^ 64 }
@@ -183,6 +183,7 @@ pub fn peek_header<D: Disk>(disk: &mut D) -> Result<Option<Header>, DiskFail>
         (IfTold (D.model.content disk.new) (λ l. Exactly l (D.model.images disk.new))) }
     ensures peeked { IfOk result (λ found. IfTold (D.model.content disk.old) (IsPeeked found)) }
     ensures failed { OnErr result (Faulted D.model disk.old disk.new) }
+    ensures no_memory { OnNoMemory result ⊥ }
     ensures narrows { Narrows D.model disk.old disk.new }
 {
     match measured(disk)? {
@@ -237,6 +238,7 @@ fn measured<D: Disk>(disk: &mut D) -> Result<Option<Opening>, DiskFail>
     ensures place { IfOk result (λ found. IfSome found (λ o. BeginsAt o.header o.place)) }
     ensures range { IfOk result (λ found. IfSome found (λ o. IsHeader o.header)) }
     ensures failed { OnErr result (Faulted D.model disk.old disk.new) }
+    ensures no_memory { OnNoMemory result ⊥ }
     ensures narrows { Narrows D.model disk.old disk.new }
 {
     disk.sync()?;
@@ -249,6 +251,7 @@ fn said<D: Disk>(disk: &mut D) -> Result<Option<Opening>, DiskFail>
     ensures place { IfOk result (λ found. IfSome found (λ o. BeginsAt o.header o.place)) }
     ensures range { IfOk result (λ found. IfSome found (λ o. IsHeader o.header)) }
     ensures failed { OnErr result (Faulted D.model disk.old disk.new) }
+    ensures no_memory { OnNoMemory result ⊥ }
     ensures looks { Looks D.model disk.old disk.new }
 {
     let len = disk.len()?;

@@ -1,7 +1,8 @@
 use Rattle.std.proofs.Common.{inl, inr, length}
-use Rattle.compact_core.proofs.Results.{both_ok, always_err}
+use Rattle.compact_core.proofs.Results.{both_ok, always_err, ok_then}
 use Rattle.compact_core.proofs.Tails.{each_kept, stands_torn, stands_written}
 use Rattle.compact_core.proofs.Writes.{content_by, left_by, left_torn, told_torn}
+use Rattle.compact_core.proofs.Wrote.{wrote}
 use Rattle.compact_core.proofs.extend.extend.Goals as goal
 
 pub returns-clause-ok : goal.returns-clause-ok
@@ -11,6 +12,12 @@ returns-clause-ok g c =
     both_ok c.write_at.result w.written w.images (λ becomes tears gate tail stands at.
     stands_written stands at bytes becomes
     (left_torn g.D.Disk.model c.args.disk.now c.write_at.new.self c.args.place (length bytes) tears))
+
+pub returns-clause-wrote : goal.returns-clause-wrote
+returns-clause-wrote g c =
+    let d = g.D.Disk.model in
+    ok_then c.write_at.result c.write_at.ensures.written (wrote c.args.place c.args.bytes.now
+    (d.content c.args.disk.now) (d.content c.write_at.new.self) c.requires.start)
 
 pub returns-clause-stays : goal.returns-clause-stays
 returns-clause-stays g c =

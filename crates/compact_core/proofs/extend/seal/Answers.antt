@@ -18,6 +18,10 @@ returns-clause-ok g c = ok_then c.sync.result c.sync.ensures.synced (λ _ gate t
     stands_still (c.in_ok-extend_closed.ensures.ok gate tail gathered at) c.sync.ensures.content
     c.sync.ensures.no_new)
 
+pub returns-clause-closed : goal.returns-clause-closed
+returns-clause-closed g c = ok_then c.sync.result c.sync.ensures.synced (λ _ l told.
+    c.in_ok-extend_closed.ensures.closed l (sym c.sync.ensures.content ∙ told))
+
 pub returns-clause-stays : goal.returns-clause-stays
 returns-clause-stays g c gate tail gathered at =
     let left = c.in_ok-extend_closed.ensures.stays gate tail gathered at in

@@ -1,4 +1,4 @@
-use Rattle.std.proofs.Common.{◌≡◌, ◌∷◌, ◌++◌, List, ℕ, [], length, inr, refl, sym, subst, ap, ◌∙◌, arith}
+use Rattle.std.proofs.Common.{◌≡◌, ◌≢◌, ◌∷◌, ◌++◌, List, ℕ, [], drop, length, take, inr, refl, sym, subst, ap, ◌∙◌, arith}
 use Rattle.disk_edge.specs.Disk.{written, Same, Tears}
 use Rattle.disk_edge.specs.Moments.{AtEachMoment, two_calls}
 use Rattle.disk_edge.specs.TornLaws.{torn_same, torn_written, length-written}
@@ -16,6 +16,7 @@ use Rattle.compact_core.proofs.Results.{at_failed, at_no_memory}
 use Rattle.compact_core.proofs.Tails.{front_tail, sealed_torn, sealed_open, stands_still}
 use Rattle.compact_core.proofs.Viewed.{at_view}
 use Rattle.compact_core.proofs.Writes.{some_is, told_before, told_written, untold_written}
+use Rattle.compact_core.proofs.Wrote.{still_closed}
 use Rattle.compact_core.proofs.carry.Carry.finish.Goals as goal
 
 pub returns-in-Err-Failed-clause-sure : goal.returns-in-Err-Failed-clause-sure
@@ -74,6 +75,17 @@ at_gate-requires g c = record {
       let is : written 0 (OPEN ∷ []) l.0 ≡ k = some_is (written 0 (OPEN ∷ []) l.0) k
       (sym (told_written (d.content mid) (d.content new) (written 0 (OPEN ∷ [])) l.0 l.1 becomes) ∙ told) in
       omega (arith, c.in-Ok.ensures.reaches l.0 l.1, length-written 0 (OPEN ∷ []) l.0, ap length is);
+  shut = λ k told.
+      let d = g.D.Disk.model in
+      let mid = c.seal.new.disk in
+      let new = c.put.new.disk in
+      let becomes = c.in-Ok-put.ensures.content in
+      let l = told_before (d.content mid) (d.content new) k
+      (untold_written (d.content mid) (d.content new) (written 0 (OPEN ∷ [])) becomes) told in
+      let is : written 0 (OPEN ∷ []) l.0 ≡ k = some_is (written 0 (OPEN ∷ []) l.0) k
+      (sym (told_written (d.content mid) (d.content new) (written 0 (OPEN ∷ [])) l.0 l.1 becomes) ∙ told) in
+      subst (λ (m : List ℕ). take 1 (drop c.carry.inside.place m) ≢ OPEN ∷ []) is
+      (still_closed c.carry.inside.place OPEN l.0 (omega arith) (c.in-Ok.ensures.closed l.0 l.1));
 }
 
 pub returns-in-Ok-put-clause-ok : goal.returns-in-Ok-put-clause-ok

@@ -36,6 +36,7 @@ returns g c =
       goes = it.goes;
       moved = search rules;
       stays = search rules;
+      in_doubt = search rules;
       header = search rules;
       progress = search rules;
       second = search rules;
