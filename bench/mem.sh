@@ -1,7 +1,7 @@
 #!/usr/bin/env bash
-# Registers drug-like structures in memory and searches them; prints registrations per second, memory for each record, and
-# nanoseconds for each record of a search, the least of ten runs each. Script and replies are files: through a pipe each
-# reply wakes the reader, which costs a few microseconds more. Memory is the greatest that the program itself had in use
+# Registers drug-like structures in memory and searches them; prints registrations per second, memory for each record,
+# and nanoseconds for each record of a search, the least of ten runs each. Script and replies are files: through a pipe
+# each reply wakes the reader, which costs a few microseconds more. Memory is the most that the program itself had in use
 # (VmHWM of /proc/PID/status), read while its input is still open, less that of a store without records.
 # Usage: bench/mem.sh [STRUCTURES [PROGRAM]]; without PROGRAM, ./build builds it where it is not built
 set -euo pipefail

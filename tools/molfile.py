@@ -1,7 +1,8 @@
 """Makes a SMILES of a molfile that a store has: its atoms, bonds, isotopes, charges and hydrogens.
 
-It reads what docs/formats.md, "Molfiles", says, and fills hydrogens by its tables. Double bonds stand as they are written
-there. What the program refuses is not refused here; a text that cannot be read raises `ValueError`.
+It reads what docs/formats.md, "Molfiles", says, and fills hydrogens by its tables. Double bonds stand as they are
+written there. What the program refuses is not refused here; a text that cannot be read raises `ValueError` or
+`IndexError`.
 """
 from typing import Dict, List, NamedTuple, Tuple
 

@@ -1,4 +1,5 @@
 """The lines of a script and of its replies, as docs/formats.md, "Scripts", has them."""
+import os
 from typing import BinaryIO, Iterator, List, NamedTuple, Optional, Tuple
 
 LONGEST_LINE = 65_536
@@ -181,3 +182,10 @@ def answers(asked: Asked, replies: Replies) -> Iterator[Tuple[Part, Optional[byt
 def is_refusal(reply: Optional[bytes]) -> bool:
     """Whether a last reply says that nothing was done; a missing one too."""
     return reply is None or reply.startswith((b"refused ", b"fault "))
+
+
+def default_program() -> str:
+    """`./chemdb` of the folder where one is, where that is there; else the one beside tools/."""
+    here = os.path.join(".", "chemdb")
+    root = os.path.dirname(os.path.dirname(os.path.realpath(__file__)))
+    return here if os.access(here, os.X_OK) else os.path.join(root, "chemdb")

@@ -314,28 +314,36 @@ def salvage(file: StoreFile, left_out: Callable[[int, int, str], None], beyond: 
     place, last, is_base = file.begin, 0, file.format != 1
     while place < file.size:
         entry = file.base_at(place) if is_base else None
-        if entry is None or entry.id <= last:
+        if entry is None:
             is_open = file.gate_at(place) == OPEN
-            closed = not is_open and goes_on_behind(file, place)
-            if not is_open and not (closed and beyond) and found.base >= file.base_count and found.places:
-                break
-            entry = file.commit_at(place) if is_open or (closed and beyond) else None
+            closed = not is_open and beyond and goes_on_behind(file, place)
+            if not is_open and not closed and found.base >= file.base_count and found.places:
+                end = resume(file, place + 1, is_base, last) if beyond else file.size
+                if end == file.size:
+                    break
+            entry = file.commit_at(place) if is_open or closed else None
             if entry and not is_open:
                 left_out(place, place + 1, f"the gate was not open; identifier {entry.id} behind it is read")
-        if entry is None:
+        if entry is None or not reads_on(file, entry):
             end = resume(file, place + 1, is_base, last)
             left_out(place, end, "no record can be read there")
             place = end
             continue
-        is_base, last = entry.is_base, entry.id
-        why = text_fault(entry)
-        if why:
-            left_out(entry.place, entry.end, f"{why}; identifier {entry.id}")
+        is_base = entry.is_base
+        if is_base and not is_in_order(file, entry, last):
+            left_out(place, entry.end, f"a base record whose identifier is not in order: {entry.id}")
         else:
+            last = entry.id
             found.add(entry)
         place = entry.end
     file.end = min(place, file.size)
     return found
+
+
+def is_in_order(file: StoreFile, entry: Entry, last: int) -> bool:
+    """Whether a base record's identifier may stand between that before it and that behind it."""
+    behind = file.base_at(entry.end)
+    return entry.id > last and not (behind is not None and last < behind.id <= entry.id)
 
 
 def goes_on_behind(file: StoreFile, gate: int) -> bool:
