@@ -94,6 +94,12 @@ def main(folder, rows):
                 sys.exit("a worker ended, and a search was answered by the other parts")
             except chemdb_dask.PartFailed as error:
                 print("a search was an error, since the worker of part", error.part, "was ended")
+            parts._ask(3, "call", "kill")
+            try:
+                parts.same("C")
+                sys.exit("a program ended, and a lookup was answered by the other parts")
+            except chemdb_dask.PartFailed as error:
+                print("a lookup was an error, since the program of part", error.part, "was ended")
             compare(parts, one, rows)
             print("the next ones are answered as before")
 
