@@ -8,7 +8,7 @@
             print(identifier, db.show(identifier).text)
 
 `run`, `mem`, `serve` and `connect` each begin sessions. A method is a line of a script (docs/formats.md of chemdb), and
-returns when its reply is whole; hits come one by one. What is refused raises an exception that is named like the reply.
+returns when its reply is whole; hits come one by one. A refusal raises an exception that is named like the reply.
 Threads may share a session: their lines are answered one after another.
 """
 
@@ -28,6 +28,7 @@ import threading
 import time
 from array import array
 from collections import deque
+from itertools import chain
 from types import TracebackType
 from typing import (
     IO, Callable, ClassVar, Deque, Dict, Iterable, Iterator, List, NamedTuple, Optional, Sequence, Tuple, Type, Union
@@ -57,7 +58,7 @@ STATUS = {
 
 
 class ChemDBError(Exception):
-    """What goes wrong in a session."""
+    """Any error of a session."""
 
 
 class Ended(ChemDBError):
@@ -75,11 +76,11 @@ class Ended(ChemDBError):
         if self.status is None:
             return "the other side closed the connection"
         if self.status < 0:
-            told = f"the program was ended by signal {-self.status}; what was answered before stands"
+            sentence = f"the program was ended by signal {-self.status}; what was answered before stands"
         else:
             meaning = STATUS.get(self.status, "a status without a meaning")
-            told = f"the program ended with status {self.status}: {meaning}"
-        return told + (f" ({self.said})" if self.said else "")
+            sentence = f"the program ended with status {self.status}: {meaning}"
+        return sentence + (f" ({self.said.splitlines()[0]})" if self.said else "")
 
 
 class Answered(ChemDBError):
@@ -174,7 +175,7 @@ class FaultDiskDoubt(FaultDisk): "The disk failed at the last step; after a cras
 
 
 class End(NamedTuple):
-    """The last line of an answer. What it does not tell is None."""
+    """The last line of an answer. A count that it does not have is None."""
 
     version: int
     hits: int
@@ -240,7 +241,7 @@ Progress = Callable[[Step], None]
 
 
 def bar(step: Step) -> None:
-    """Shows a load's progress where standard error is a terminal, and does nothing elsewhere."""
+    """Shows a load's progress if standard error is a terminal, and does nothing otherwise."""
     if not sys.stderr.isatty():
         return
     part = "" if not step.total else f"[{'#' * (30 * step.done // step.total):30}] "
@@ -320,7 +321,7 @@ class _Request:
         return self.left == 0 and self.body_left == 0
 
     def take_hits(self, lines: bytes) -> bool:
-        """Takes the lines at once where each of them is a hit of this request; answers whether they are."""
+        """Takes the lines at once if each of them is a hit of this request; returns whether they are."""
         if self.body_left or not lines.startswith(b"hit ") or lines.count(b"\nhit ") != lines.count(b"\n") - 1:
             return False
         if self.wanted:
@@ -337,7 +338,7 @@ class _Request:
         elif line.startswith(b"like "):
             self.likes.append(Like(*map(int, line[5:].split(b" "))))
         else:
-            # Where the identifiers of a register-sd are refused, this is its only reply.
+            # If the identifiers of a register-sd are refused, this is its only reply.
             self.left = 0 if line == b"refused id" else self.left - 1
             self.last.append(line)
             words = line.split(b" ")
@@ -354,8 +355,8 @@ class _Request:
     def end(self) -> End:
         """The numbers of an answer's last line."""
         words = self.words("end")
-        told = dict(zip(words[1::2], map(int, words[2::2])))
-        return End(told["at"], told["hits"], told.get("tried"), told.get("rebuilt"), told.get("scored"))
+        count = dict(zip(words[1::2], map(int, words[2::2])))
+        return End(count["at"], count["hits"], count.get("tried"), count.get("rebuilt"), count.get("scored"))
 
 
 class _Closed(Exception):
@@ -368,6 +369,7 @@ class _Wire:
     def __init__(self, to: int, back: int, over: Callable[[], bool]) -> None:
         self.to, self.back, self.over = to, back, over
         self.waiting = bytearray()
+        self.taking = False  # whether bytes were read and not given to their request yet
         os.set_blocking(to, False)
         os.set_blocking(back, False)
 
@@ -392,10 +394,11 @@ class _Wire:
             del self.waiting[: os.write(self.to, self.waiting[:65536])]
         except BlockingIOError:
             pass
-        except OSError:  # nobody reads: replies that were written before can still be read
+        except OSError:  # the other side reads no more: replies that it wrote before can still be read
             self.waiting.clear()
 
     def _receive(self) -> bytes:
+        self.taking = True
         try:
             data = os.read(self.back, 65536)
         except BlockingIOError:
@@ -522,9 +525,6 @@ class ChemDB:
         self._check()
         try:
             came = self._wire.read()
-            if not came:
-                return
-            self._broken = "it was interrupted in a reply; close it"
             *lines, self._rest = (self._rest + came).split(b"\n")
             if lines and not (self._pending and self._pending[0].take_hits(b"\n".join(lines) + b"\n")):
                 for line in lines:
@@ -533,12 +533,14 @@ class ChemDB:
                     self._pending[0].take(line)
                     if self._pending[0].done:
                         self._pending.popleft()
-            self._broken = None
+            self._wire.taking = False
         except _Closed:
             self._broken = "it has ended"
             raise self._ended() from None
 
     def _check(self) -> None:
+        if self._wire.taking:  # an interruption came between bytes and the request that they answer
+            self._broken = self._broken or "it was interrupted in a reply; close it"
         if self._broken:
             raise ChemDBError(f"this session cannot be used: {self._broken}")
 
@@ -602,7 +604,7 @@ class ChemDB:
         """Makes a beginning at an end that others used: what they left is refused, and what they did not read dropped.
 
         A line that is too long is refused with the half line, molfile or record that it joins. Replies are dropped up
-        to those of lines that nobody else sends: lines of two kinds, in a random order.
+        to those of lines that no other client sends: lines of two kinds, in a random order.
         """
         kinds = [("close", b"refused cursor"), ("unwatch", b"refused watch")]
         chosen = [secrets.choice(kinds) for _ in range(48)]
@@ -614,6 +616,7 @@ class ChemDB:
         try:
             while not came.endswith(expected):
                 came = came[-len(expected):] + self._wire.read()
+            self._wire.taking = False
         except _Closed:
             raise Ended(None) from None
 
@@ -684,7 +687,7 @@ class ChemDB:
         done = registered = 0
         refused: List[Failed] = []
         faults: List[Failed] = []
-        told = 0.0
+        shown = 0.0
         for request in self._stream(requests):
             last = request.last * len(request.rows) if len(request.last) < len(request.rows) else request.last
             for reply, row in zip(last, request.rows):
@@ -694,8 +697,8 @@ class ChemDB:
                 else:
                     error = _error(reply, request.line)
                     (faults if isinstance(error, Fault) else refused).append(Failed(*row, error))
-            if progress and time.monotonic() - told > 0.1:
-                told = time.monotonic()
+            if progress and time.monotonic() - shown > 0.1:
+                shown = time.monotonic()
                 progress(Step(done, total, len(refused) + len(faults), False))
         if progress:
             progress(Step(done, total, len(refused) + len(faults), True))
@@ -891,7 +894,7 @@ def serve(file: str, ends: int, program: Optional[str] = None, workers: Optional
     """1 to 16 sessions at the same time over one store, of one program, through named pipes."""
     with tempfile.TemporaryDirectory(prefix="chemdb") as folder:
         names = [os.path.join(folder, f"end{number}") for number in range(1, ends + 1)]
-        pipes = []
+        pipes: List[Tuple[int, int]] = []
         for name in names:
             os.mkfifo(name, 0o600)
             os.mkfifo(name + ".out", 0o600)
@@ -899,8 +902,13 @@ def serve(file: str, ends: int, program: Optional[str] = None, workers: Optional
             to = os.open(name, os.O_RDWR | os.O_NONBLOCK)
             pipes.append((to, os.open(name + ".out", os.O_RDONLY | os.O_NONBLOCK)))
         words = _words("serve", file, workers, page, commits) + names
-        program_ = _Program(words, program, subprocess.DEVNULL, subprocess.DEVNULL)
-        sessions = [ChemDB(_Wire(to, back, program_.over), program_, False) for to, back in pipes]
+        try:
+            started = _Program(words, program, subprocess.DEVNULL, subprocess.DEVNULL)
+        except BaseException:
+            for fd in chain.from_iterable(pipes):
+                os.close(fd)
+            raise
+        sessions = [ChemDB(_Wire(to, back, started.over), started, False) for to, back in pipes]
         try:
             for session, name in zip(sessions, names):
                 session.stats()
@@ -912,10 +920,9 @@ def serve(file: str, ends: int, program: Optional[str] = None, workers: Optional
         except BaseException:
             for session in sessions:
                 session._shut()
-            if not program_.over():
-                program_.kill()
+            started.kill()
             raise
-        ended = program_.ended()
+        ended = started.ended()
         if ended.status:
             raise ended
 

@@ -38,7 +38,7 @@ Rows = List[Tuple[int, int, str]]  # number in the load, identifier, SMILES
 
 
 class PartFailed(chemdb.ChemDBError):
-    """A part did not answer: `part` is its number, `cause` tells why. The next call opens it again."""
+    """A part did not answer: `part` is its number, `cause` is the reason. The next call opens it again."""
 
     def __init__(self, part: int, file: str, cause: str) -> None:
         super().__init__(part, file, cause)
@@ -165,7 +165,7 @@ class Parts:
         latest = time.monotonic() + PATIENCE
         while True:
             workers = self.client.scheduler_info()["workers"]
-            there = [address for address, told in workers.items() if not self.hosts or told["host"] == self.hosts[part]]
+            there = [address for address, it in workers.items() if not self.hosts or it["host"] == self.hosts[part]]
             if there:
                 return min(there, key=lambda address: (self._workers.count(address), address))
             if time.monotonic() > latest:

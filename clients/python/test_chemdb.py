@@ -5,6 +5,7 @@ import io
 import os
 import pickle
 import select
+import signal
 import socket
 import subprocess
 import tempfile
@@ -282,7 +283,7 @@ class Ends(Store):
                 pass
         return caught.exception
 
-    def test_a_program_that_ends_tells_why(self):
+    def test_a_program_that_ends_gives_its_status_and_sentence(self):
         for status, sentence in chemdb.STATUS.items():
             error = self.ended(chemdb.run, self.file, self.program(f"echo why >&2; exit {status}\n"))
             self.assertEqual((error.status, error.said), (status, "why"))
@@ -315,6 +316,8 @@ class Ends(Store):
         self.assertEqual(self.ended(chemdb.serve, self.path("absent"), 2).status, 5)
         with self.assertRaises(FileNotFoundError):
             chemdb.run(self.file, self.path("no program"))
+        with self.assertRaises(FileNotFoundError), chemdb.serve(self.file, 2, self.path("no program")):
+            pass
 
     def test_a_program_that_ends_in_a_reply_is_not_taken_for_an_answer(self):
         with self.assertRaises(chemdb.Ended), chemdb.mem() as db:
@@ -332,6 +335,21 @@ class Ends(Store):
         with self.assertRaises(chemdb.Ended) as caught, chemdb.run(self.file, program) as db:
             db.show(1)
         self.assertEqual(caught.exception.status, 4)
+
+    def test_an_interruption_leaves_the_replies_in_step(self):
+        def interrupt(number, frame):
+            raise KeyboardInterrupt
+
+        program = self.program('read l; echo "stats version 0 live 0 withdrawn 0 kept 0 pins 0"; read l; '
+                               'sleep 0.6; printf "hit 1\\nhit 2\\nend at 2 tried 2 hits 2\\n"; '
+                               'read l; echo "ok 3"; cat\n')
+        before = signal.signal(signal.SIGALRM, interrupt)
+        self.addCleanup(signal.signal, signal.SIGALRM, before)
+        with chemdb.run(self.file, program) as db:
+            signal.setitimer(signal.ITIMER_REAL, 0.2)
+            with self.assertRaises(KeyboardInterrupt):
+                db.search("C")
+            self.assertEqual(db.register(3, "C"), 3)
 
     def test_what_was_answered_is_there_after_a_kill(self):
         with contextlib.suppress(chemdb.Ended), chemdb.run(self.file) as db:
@@ -467,7 +485,7 @@ class Served(Store):
             self.assertEqual(program.ended().status, 0)
 
     def leave(self, path, text, read=0):
-        """A client that sends a text, reads so many bytes, and goes away."""
+        """A client that sends a text, reads `read` bytes, and goes away."""
         with socket.socket(socket.AF_UNIX) as client:
             client.connect(path)
             client.sendall(text.encode())
