@@ -6,11 +6,13 @@
 
 mod chain;
 mod chains;
+mod counted;
 mod entries;
 mod finder;
 mod ring;
 mod steps;
 
 pub use chains::Chains;
+pub use counted::Counted;
 pub use finder::Finder;
 pub use steps::Steps;

@@ -2,7 +2,8 @@
 use std::marker::Model;
 use std::sync::ledger::{Blank, Book, Ledger, Share};
 
-/// How many kept entries were read. It takes no bytes. A look at a chain raises it, and who has an entry's value elsewhere.
+/// How many kept entries were read. It takes no bytes. `Chains::at`, `Finder::at` and `Counted::read` each raise it by
+/// one. Nothing else raises it, and a kept entry's value is read by these three alone.
 #[derive(Drop)]
 pub struct Steps<L: Ledger> {
     book: Book<L>,
@@ -34,7 +35,7 @@ impl<L: Ledger> Steps<L> {
     }
 
     /// One more.
-    pub fn raise(&mut self)
+    pub(crate) fn raise(&mut self)
         ensures { self.new ≡ self.old + 1 }
     {
         self.book.add(&mut self.share, 1);

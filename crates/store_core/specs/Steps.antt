@@ -1,4 +1,5 @@
--- How many entries a fetch reads. For callers.
+-- How many entries a fetch reads. For callers. One step is one reading of an entry, out of its chain or out of the
+-- index beside the chains; the types of `record_versions` give no entry's value without a step.
 use Rattle.std.specs.Prelude.{◌≡◌, ◌≢◌, ◌+◌, ◌≤◌, All, AllPairs, Bool, Contains, length, List, ℕ}
 use Rattle.store_machine.specs.Answers.{IsAnswer}
 use Rattle.store_machine.specs.Structures.{IsScreened}

@@ -8,7 +8,7 @@ ghost use Rattle.screen_index.specs.Pairs.{Rises, is_apart, rank};
 use crate::record::Record;
 use arrayvec::ArrayVec;
 use chem_core::Print;
-use record_versions::{Chains, Finder, Steps};
+use record_versions::{Chains, Counted, Finder, Steps};
 use screen_index::{Hint, ScreenIndex, Screened, Want};
 use std::alloc::{AllocError, Global};
 use std::marker::{Brand, Model};
@@ -17,7 +17,7 @@ use std::sync::ledger::{Blank, Ledger};
 
 /// An entry whose print holds what is wanted, with its record and the version before which it is known to be its
 /// identifier's latest.
-pub type Candidate = Screened<Arc<Record>>;
+pub type Candidate = Screened<Counted<Arc<Record>>>;
 
 /// What looks at entries. Contracts see all of them.
 pub type EntryFinder<'a> = Finder<'a, Option<Arc<Record>>>;
@@ -33,7 +33,7 @@ type Leaving = ArrayVec<Option<Arc<Record>>, 32>;
 #[derive(Drop)]
 pub struct KeptEntries {
     chains: Chains<Option<Arc<Record>>>,
-    index: ScreenIndex<Arc<Record>>,
+    index: ScreenIndex<Counted<Arc<Record>>>,
 }
 
 impl Model for KeptEntries {
@@ -68,7 +68,9 @@ impl KeptEntries {
     {
         self.chains.reserve(id)?;
         match entry {
-            Some(record) => self.index.reserve(record.print(), Arc::try_clone(record)?),
+            Some(record) => self
+                .index
+                .reserve(record.print(), Counted::new(Arc::try_clone(record)?)),
             None => Ok(()),
         }
     }
@@ -156,8 +158,7 @@ pub fn record_at<'a, L: Ledger>(
     ensures steps { steps.new ≡ steps.old + 1 }
 {
     if candidate.version <= version && version < candidate.until {
-        steps.raise();
-        return Some(&candidate.value);
+        return Some(candidate.value.read(steps));
     }
     match finder.at(candidate.id, version, steps) {
         Some((at, Some(record))) if at == candidate.version || record.print().holds(want) => Some(
@@ -194,7 +195,7 @@ fn latest_by<L: Ledger>(
 
 // The pair of an identifier's latest entry is the latest before a version alone.
 fn supersede(
-    index: &mut ScreenIndex<Arc<Record>>,
+    index: &mut ScreenIndex<Counted<Arc<Record>>>,
     chains: &Chains<Option<Arc<Record>>>,
     id: u32,
     version: u32,
@@ -213,7 +214,7 @@ fn supersede(
 // Takes the entries that are not read at some versions out of the chains, and their prints out of the index.
 fn prune(
     chains: &mut Chains<Option<Arc<Record>>>,
-    index: &mut ScreenIndex<Arc<Record>>,
+    index: &mut ScreenIndex<Counted<Arc<Record>>>,
     live: &[u32],
 )
     requires { AreIndexed chains.old index.old.entries }
@@ -275,7 +276,7 @@ fn place(id: u32, version: u32) -> (u32, u32)
 
 // Puts the place of an entry behind those whose prints are still in the index, and takes these prints out first where
 // there is no room.
-fn leave(index: &mut ScreenIndex<Arc<Record>>, gone: &mut Gone, place: (u32, u32))
+fn leave(index: &mut ScreenIndex<Counted<Arc<Record>>>, gone: &mut Gone, place: (u32, u32))
     requires rises { Rises gone.old.items }
     requires last { All (λ p. rank p.0 p.1 ≤ rank place.0 place.1) gone.old.items }
     ensures rises { Rises gone.new.items }

@@ -2,7 +2,7 @@ use Rattle.std.proofs.Common.{◌↔◌, ◌∙◌, ap, eq-eqb, IsTrue, rules, S
 use Rattle.std.proofs.lemmas.Bool.{true≢false}
 use Rattle.record_versions.specs.Entries.{IsLatest, chain_of}
 use Rattle.screen_index.specs.Pairs.{Holds}
-use Rattle.store_core.specs.Kept.{kept_of, record_of}
+use Rattle.store_core.specs.Kept.{IsFoundAt, kept_of, record_of}
 use Rattle.store_core.specs.Records.{RecordTerm}
 use Rattle.store_core.proofs.Candidates.{at-version, found-at-once, found-is, found-later, none-found, not-found}
 use Rattle.store_core.proofs.kept.record_at.Goals as goal
@@ -10,8 +10,10 @@ use Rattle.store_core.proofs.kept.record_at.Goals.{in_default-via-in-Some-defaul
 
 pub returns-then-version-candidate-clause-found : goal.returns-then-version-candidate-clause-found
 returns-then-version-candidate-clause-found g c =
-    found-at-once c.args.want.now c.args.finder.now c.args.candidate.now c.requires c.args.version
-    c.if-candidate-version.true c.if-version-candidate.true
+    subst (λ r. IsFoundAt c.args.version c.args.want.now (chain_of c.args.finder.now c.args.candidate.now.id) (Some r))
+    (sym c.read.ensures.value)
+    (found-at-once c.args.want.now c.args.finder.now c.args.candidate.now c.requires c.args.version
+    c.if-candidate-version.true c.if-version-candidate.true)
 
 pub returns-in-Some-default-Some-clause-found : goal.returns-in-Some-default-Some-clause-found
 returns-in-Some-default-Some-clause-found g c =

@@ -1,4 +1,5 @@
 use Rattle.std.proofs.Common.{◌≡◌, ◌∙◌, ap, Bool, Err, List, Ok, OnErr, OnOk, Option, Result, Some, subst, sym}
+use Rattle.std.specs.Arc.{arc_value}
 use Rattle.store_core.specs.Kept.{AreIndexed}
 use Rattle.store_core.specs.Records.{RecordTerm, Shared}
 use Rattle.store_core.proofs.Indexed.{IsPair, indexed-still}
@@ -33,12 +34,13 @@ reserved (Err e) old new p ok err print was = subst IsPair (sym err) was
 pub invariant_of-self-in-Some : goal.invariant_of-self-in-Some
 invariant_of-self-in-Some c =
     let print = c.print.ensures.print
-    ∙ ap (λ (r : RecordTerm). r.print) (c.deref.ensures ∙ sym c.in_ok-try_clone-in-Some.ensures) in (
+    ∙ ap (λ (r : RecordTerm). r.print) (c.deref.ensures ∙ sym c.in_ok-try_clone-in-Some.ensures)
+    ∙ ap (λ (r : Shared). (arc_value r).print) (sym c.new.ensures) in (
       subst (AreIndexed c.reserve.new.self) (sym c.reserve-in-Some.ensures.entries)
           (indexed-still c.self.inside.chains c.reserve.new.self c.self.inside.index.entries c.reserve.ensures.chains
           c.self.invariant.0),
       reserved c.reserve-in-Some.result c.self.inside.index.reserved c.reserve-in-Some.new.self.reserved
-          (c.print.result.now, c.in_ok-try_clone-in-Some.field-0) c.reserve-in-Some.ensures.ok
+          (c.print.result.now, c.new.result) c.reserve-in-Some.ensures.ok
           c.reserve-in-Some.ensures.err print c.self.invariant.1,
     )
 
