@@ -56,6 +56,7 @@ type Made = (
 // The scripts of all files that are made of pieces.
 const MADE: &[&[Made]] = &[
     cursors::MADE,
+    patterns::MADE,
     refused::MADE,
     lookups::MADE,
     sd::MADE,
@@ -71,6 +72,21 @@ fn check_each<R: Abort + Threads + Wait + Sync>(
 ) -> Result<(), Fail> {
     for &(about, words, rows) in scripts {
         check(rt, alloc, about, words, rows)?;
+    }
+    Ok(())
+}
+
+// The scripts of a session in memory without options, with these words.
+fn check_with<R: Abort + Threads + Wait + Sync>(
+    rt: &R,
+    alloc: Global,
+    words: &[&str],
+    scripts: &[Script],
+) -> Result<(), Fail> {
+    for &(about, own, rows) in scripts {
+        if own.len() == MEM.len() {
+            check(rt, alloc, about, words, rows)?;
+        }
     }
     Ok(())
 }

@@ -1,5 +1,5 @@
 //! Commits, pins, pages and prunings.
-use super::{MEM, Made, Script, check, check_each};
+use super::{MEM, Made, Script, check, check_each, check_with};
 use std::alloc::{AllocError, Global};
 use std::test::Fail;
 
@@ -172,6 +172,14 @@ const SCRIPTS: &[Script] = &[
 #[test]
 fn scripts(rt: HostRuntime) -> Result<(), Fail> {
     check_each(&rt, rt.alloc(), SCRIPTS)
+}
+
+// No cursor here has more than 5 records, so that its first page is its last.
+#[test]
+fn scripts_with_workers_and_pages(rt: HostRuntime) -> Result<(), Fail> {
+    check_with(&rt, rt.alloc(), &["mem", "--workers", "16"], SCRIPTS)?;
+    let words = &["mem", "--workers", "3", "--page", "5"];
+    check_with(&rt, rt.alloc(), words, SCRIPTS)
 }
 
 pub(super) const MADE: &[Made] = &[

@@ -1,6 +1,6 @@
 //! Patterns: what they find, what is tried, and what is refused.
 
-use super::{MEM, Script, check, check_each};
+use super::{MEM, Made, Script, check, check_each, check_with};
 use std::test::Fail;
 
 const SCRIPTS: &[Script] = &[
@@ -63,11 +63,28 @@ const SCRIPTS: &[Script] = &[
         < end at 3 tried 1 hits 1\n\
         > search C=C\n\
         < end at 3 tried 0 hits 0\n\
-        > register 4 Cn1cnc2c1c(=O)n(C)c(=O)n2C\n\
-        < ok 4\n\
+        ",
+    ),
+    (
+        "the three nitrogens of caffeine",
+        MEM,
+        "\
+        > register 1 Cn1cnc2c1c(=O)n(C)c(=O)n2C\n\
+        < ok 1\n\
         > search [nX3]\n\
-        < hit 4\n\
-        < end at 4 tried 1 hits 1\n\
+        < hit 1\n\
+        < end at 1 tried 1 hits 1\n\
+        ",
+    ),
+    (
+        "a charge in signs, and in a number",
+        MEM,
+        "\
+        > register 1 [Fe+++]\n\
+        < ok 1\n\
+        > search [Fe+3]\n\
+        < hit 1\n\
+        < end at 1 tried 1 hits 1\n\
         ",
     ),
     (
@@ -271,6 +288,12 @@ const SCRIPTS: &[Script] = &[
         < refused smarts syntax\n\
         > search [C;]\n\
         < refused smarts syntax\n\
+        > search []\n\
+        < refused smarts syntax\n\
+        > search [1234C]\n\
+        < refused smarts syntax\n\
+        > search [C+++2]\n\
+        < refused smarts syntax\n\
         > search [!]\n\
         < refused smarts syntax\n\
         > search [H0\n\
@@ -301,6 +324,33 @@ const SCRIPTS: &[Script] = &[
 fn scripts(rt: HostRuntime) -> Result<(), Fail> {
     check_each(&rt, rt.alloc(), SCRIPTS)
 }
+
+// No reply depends on how many workers a search has, or on the records of its pages.
+#[test]
+fn scripts_with_workers_and_pages(rt: HostRuntime) -> Result<(), Fail> {
+    check_with(&rt, rt.alloc(), &["mem", "--workers", "16"], SCRIPTS)?;
+    let words = &["mem", "--workers", "3", "--page", "5"];
+    check_with(&rt, rt.alloc(), words, SCRIPTS)
+}
+
+pub(super) const MADE: &[Made] = &[(
+    "symbols that stand only behind 70 atoms",
+    MEM,
+    &[
+        (b"register 1 ", 1, 1),
+        (b"C", 1, 70),
+        (
+            b"N(F)Cl\nsearch N\nsearch [#17]\nsearch F.Cl\nsearch [N;D3]\nsearch S\n",
+            1,
+            1,
+        ),
+    ],
+    &[
+        (b"ok 1\n", 1, 1),
+        (b"hit 1\nend at 1 tried 1 hits 1\n", 1, 4),
+        (b"end at 1 tried 0 hits 0\n", 1, 1),
+    ],
+)];
 
 // A group so many times, a part so many times, and the hits.
 const MANY: &[(&str, usize, &str, usize, u32)] = &[
