@@ -1,4 +1,3 @@
-mod Acknowledged
 mod Ascending
 mod ByCalls
 pub mod Cuts
