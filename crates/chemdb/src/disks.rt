@@ -1,5 +1,6 @@
 //! The two files of a store, opened as the words ask for them, and the cut of the one that is no longer read.
 
+use crate::settle::settle;
 use chem_shell::{Plan, Verb};
 use disk_edge::{Disk, DiskFail, FileDisk};
 use disk_pair::{Which, which_is_read};
@@ -44,7 +45,11 @@ pub fn open_disks<R: AllocGlobal + Files<File = File>>(
         });
     }
     let (a, b) = store_disks(rt, path.as_str(), second.as_str());
-    Ok(measured(path, a, b))
+    let settled = settle(alloc, a, b)?;
+    Ok(match settled {
+        Some((a, b)) => measured(path, a, b),
+        None => none(),
+    })
 }
 
 /// Cuts the file that is not read, where the generation that is read is greater than it was: a compaction ended since,

@@ -5,6 +5,7 @@ ghost use Rattle.std.specs.Prelude.{◌≡◌, IfOk, length};
 
 mod disks;
 mod files;
+mod settle;
 
 use crate::disks::{Opened, cut_other, open_disks};
 use crate::files::script_ends;

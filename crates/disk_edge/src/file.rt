@@ -41,11 +41,10 @@ impl Model for FileDisk {
 }
 
 impl FileDisk {
-    /// The regular file of this path, for reading and writing, under an exclusive lock that the disk holds. With
-    /// `create` it is made where nothing is there. It is settled: what a read gives from then on is what the device has,
-    /// also where an earlier program's sync failed. Where the path names something else, the file has a second name,
-    /// another holds the lock, it could not be settled, or a standard stream is closed, so that the file would stand for
-    /// it, each call of the disk fails; no byte of anything was changed then.
+    /// The regular file of this path, for reading and writing, under an exclusive lock that the disk holds, and synced.
+    /// With `create` it is made where nothing is there. Where the path names something else, the file has a second name,
+    /// another holds the lock, the sync failed, or a standard stream is closed, so that the file would stand for it, each
+    /// call of the disk fails; no byte of anything was changed then.
     pub fn at<R: Files<File = File>>(rt: &R, path: &str, create: bool) -> FileDisk
         ensures { result ≡ 0 }
     {
@@ -75,6 +74,15 @@ impl FileDisk {
         ensures { result ≡ 0 }
     {
         FileDisk::holding(None)
+    }
+
+    /// Writes the byte at `place` again, with the value that a read gives. The next sync then writes its page, even if the
+    /// system took the page for written when a sync of it failed.
+    pub fn write_again(&mut self, place: u64) -> Result<(), DiskFail>
+        ensures { silent.Counted result self.old self.new }
+    {
+        let given = write_again(self.usable(), place);
+        self.counted(given)
     }
 
     /// Cuts the file to no bytes, and syncs it. No contract of a store allows it: it is for a file that is not read.
@@ -213,7 +221,7 @@ fn folder_of(path: &str) -> &str {
 }
 
 // The file, where it is a regular one, stands apart from the standard streams, its lock was free, the path still names
-// it, no hard link gives it a second name, by which it would have another second file, and it could be settled.
+// it, no hard link gives it a second name, by which it would have another second file, and it could be synced.
 fn locked<R: Files<File = File>>(rt: &R, path: &str, file: File) -> Option<File> {
     if !is_apart(&file) || file.try_lock().is_err() {
         return None;
@@ -227,15 +235,10 @@ fn locked<R: Files<File = File>>(rt: &R, path: &str, file: File) -> Option<File>
     }
 }
 
-// The file, with what was written to it on its device, and the system's copies of its pages dropped: a sync that failed,
-// perhaps another program's, leaves pages that the device has not got, and that the system takes for written.
+// The file, where what was written to it and not synced could be synced now.
 fn settled(file: File) -> Option<File> {
     file.sync_all().ok()?;
-    if libc::posix_fadvise(file.as_raw_fd(), 0, 0, libc::POSIX_FADV_DONTNEED) == 0 {
-        Some(file)
-    } else {
-        None
-    }
+    Some(file)
 }
 
 // Whether both are of one file.
@@ -269,6 +272,12 @@ fn read(held: Option<&Held>, at: u64, room: &mut [u8]) -> Option<()> {
 
 fn write(held: Option<&Held>, at: u64, bytes: &[u8]) -> Option<()> {
     open(held)?.write_all_at(bytes, at).ok()
+}
+
+fn write_again(held: Option<&Held>, place: u64) -> Option<()> {
+    let mut byte = [0];
+    read(held, place, &mut byte)?;
+    write(held, place, &byte)
 }
 
 fn sync(held: Option<&Held>) -> Option<()> {
