@@ -52,6 +52,30 @@ const SCRIPTS: &[Script] = &[
         ",
     ),
     (
+        "two calls in a row fail with a finish in doubt, and then a commit is made",
+        &["drill"],
+        "\
+        > 1 register 1 C\n\
+        < 1 ok 1\n\
+        > 1 compact\n\
+        < 1 compacting 1\n\
+        > 1 compact\n\
+        < 1 compacting 0\n\
+        > fail-b 4\n\
+        < set\n\
+        > 1 compact\n\
+        < 1 fault disk doubt\n\
+        > fail-b 4\n\
+        < set\n\
+        > 1 register 2 C\n\
+        < 1 fault disk sure\n\
+        > 1 register 2 C\n\
+        < 1 ok 2\n\
+        > reopen 2\n\
+        < reopened 2\n\
+        ",
+    ),
+    (
         "a commit behind a finish in doubt",
         &["drill"],
         "\
@@ -132,6 +156,16 @@ const STEPS: &[Step] = &[
         "compacting 2\ncompacting 0\ncompacted 2\nstats version 2 live 2 withdrawn 0 kept 2 pins 0\n",
         COMPACTED_TWICE,
         TWO_COMMITS,
+    ),
+    // at the last version no commit is made, and a copy is
+    (
+        b"ZCHEMDB2\x01\0\0\0\xff\xff\xff\0\0\0\0\0\0",
+        "register 1 C\ncompact\ncompact\n",
+        0,
+        0,
+        "refused full\ncompacting 0\ncompacted 2\n",
+        b"ZCHEMDB2\x02\0\0\0\xff\xff\xff\0\0\0\0\0\0O\0",
+        b"ZCHEMDB2\x01\0\0\0\xff\xff\xff\0\0\0\0\0\0",
     ),
     // a copy that is cut is damaged
     (

@@ -48,7 +48,29 @@ const BYTES: &[(&[u8], u8, u64, &str)] = &[
     (b"ZCHEMDB2\0", 6, 0, ""),
     (b"ZCHEMDB1", 7, 8, ""),
     (b"ZCHEMDB1Z\x01\0\0\0\x04\0", 7, 8, ""),
+    // cut within the commit, and behind it
+    (b"ZCHEMDB1Z\x09\0\0\0\x01\x01\0\0\0\x01CC", 7, 8, ""),
     (b"ZCHEMDB1Z\x09\0\0\0\x01\x01\0\0\0\x01CCO", 7, 22, ""),
+    // an empty payload, and one that is a byte too long
+    (b"ZCHEMDB1Z\0\0\0\0\0", 7, 8, ""),
+    (b"ZCHEMDB1Z\x01\0\x10\0", 7, 8, ""),
+    // open gates behind a closed one
+    (
+        b"ZCHEMDB1\0\
+            ZZZZZZZZZZZZZZZZZZZZZZZZZZZZZZZZZZZZZZZZZZZZZZZZZZ\
+            ZZZZZZZZZZZZZZZZZZZZZZZZZZZZZZZZZZZZZZZZZZZZZZZZZZ",
+        0,
+        0,
+        COUNTS,
+    ),
+    // a base at the last version that a store may have, and at the one after it
+    (
+        b"ZCHEMDB2\0\0\0\0\xff\xff\xff\0\0\0\0\0\0",
+        0,
+        0,
+        "stats version 16777215 live 0 withdrawn 0 kept 0 pins 0\n",
+    ),
+    (b"ZCHEMDB2\0\0\0\0\0\0\0\x01\0\0\0\0\0", 7, 12, ""),
     (
         b"ZCHEMDB1Z\x07\0\0\0\x01\x01\0\0\0\x01C\0more",
         0,
@@ -68,6 +90,7 @@ const ABSENT: &str = "refused absent\nstats version 0 live 0 withdrawn 0 kept 0 
 // The same of stores by another hand, where `show 1` is asked first.
 const BY_ANOTHER_HAND: &[(&[u8], u8, u64, &str)] = &[
     // a text that has no structure, and one with a line feed
+    (b"ZCHEMDB1Z\x08\0\0\0\x01\x01\0\0\0\x01C(\0", 7, 8, ""),
     (b"ZCHEMDB1Z\x09\0\0\0\x01\x01\0\0\0\x01CC(\0", 7, 8, ""),
     (b"ZCHEMDB1Z\x09\0\0\0\x01\x01\0\0\0\x01C\nC\0", 7, 8, ""),
     // the greatest length
@@ -152,36 +175,50 @@ fn version_of<R: Threads + Wait + Sync>(
     Ok(Some(digit.saturating_sub(b'0') as usize))
 }
 
-// Whether three registrations over a disk whose call of this number fails leave what they should: the image of this
-// number loads to the commits that were acknowledged, and at most one more.
+// Stores, and how many commits they have.
+const BEGUN: &[(&[u8], usize)] = &[
+    (b"ZCHEMDB1\0", 0),
+    (
+        b"ZCHEMDB1Z\x07\0\0\0\x01\x08\0\0\0\x01CZ\x07\0\0\0\x01\x09\0\0\0\x01N\0",
+        2,
+    ),
+];
+
+// Whether three registrations over a store whose disk's call of this number fails leave what they should: the image of
+// this number loads to the commits that there were and that were acknowledged, and at most one more.
 fn is_kept<R: Threads + Wait + Sync>(
     rt: &R,
     alloc: Global,
+    store: (&[u8], usize),
     call: u64,
     image: u32,
 ) -> Result<bool, AllocError> {
-    let mut disk = disk_of(alloc, b"ZCHEMDB1\0")?;
+    let (bytes, commits) = store;
+    let mut disk = disk_of(alloc, bytes)?;
     disk.fail_once(call);
     let disks = (disk, MemDisk::new(alloc));
     let script = "register 1 C\nregister 2 N\nregister 3 O\n";
     let answer = run(rt, alloc, script, disks)?;
     if answer.status == 5 {
-        return Ok(has_left(&answer, "", (b"ZCHEMDB1\0", b"")));
+        return Ok(has_left(&answer, "", (bytes, b"")));
     }
-    let sure = acknowledged(put_by(&answer));
-    let is_done = answer.status == 0 && sure >= 2;
+    let made = acknowledged(put_by(&answer));
+    let is_done = answer.status == 0 && made >= 2;
+    let sure = commits.saturating_add(made);
     let version = version_of(rt, alloc, answer.a.image(image))?;
     Ok(is_done && (version == Some(sure) || version == Some(sure.saturating_add(1))))
 }
 
 #[test]
 fn each_call_of_the_disk_fails_in_turn(rt: HostRuntime) -> Result<(), Fail> {
-    for call in 1..20u64 {
-        for image in 0..6u32 {
-            assert!(rt;
-                is_kept(&rt, rt.alloc(), call, image)?,
-                "at {call}, image {image}"
-            );
+    for &(bytes, commits) in BEGUN {
+        for call in 1..21u64 {
+            for image in 0..6u32 {
+                assert!(rt;
+                    is_kept(&rt, rt.alloc(), (bytes, commits), call, image)?,
+                    "a store of {commits} commits at {call}, image {image}"
+                );
+            }
         }
     }
     let alloc = rt.alloc();
