@@ -27,6 +27,7 @@ mod patterns;
 mod prints;
 mod refused;
 mod sd;
+mod serve;
 mod served;
 mod structures;
 mod turns;
@@ -190,8 +191,22 @@ fn call_on<R: Threads + Wait + Sync, D: Disk + Send + Drop>(
 ) -> Result<Outcome<D, MemSource, MemSink>, AllocError>
     requires { 0 < ways.piece }
 {
+    call_each(rt, alloc, words, &[script], ways, disks)
+}
+
+// The same with a script for each end.
+fn call_each<R: Threads + Wait + Sync, D: Disk + Send + Drop>(
+    rt: &R,
+    alloc: Global,
+    words: &[&str],
+    scripts: &[&[u8]],
+    ways: Ways<'_>,
+    disks: (D, D),
+) -> Result<Outcome<D, MemSource, MemSink>, AllocError>
+    requires { 0 < ways.piece }
+{
     let count = ends_of(alloc, words)?;
-    let ends = ends(alloc, count, script, ways)?;
+    let ends = ends(alloc, count, scripts, ways)?;
     let (a, b) = disks;
     Ok(chemdb(rt, alloc, words, a, b, ends))
 }
@@ -244,10 +259,11 @@ fn ends_of(alloc: Global, words: &[&str]) -> Result<u32, AllocError>
     }
 }
 
+// This many ends, with these scripts, and those behind them with none.
 fn ends(
     alloc: Global,
     count: u32,
-    script: &[u8],
+    scripts: &[&[u8]],
     ways: Ways<'_>,
 ) -> Result<Vec<End<MemSource, MemSink>>, AllocError>
     requires { 0 < ways.piece }
@@ -255,6 +271,7 @@ fn ends(
 {
     let mut ends = Vec::new(alloc);
     for _ in 0..count {
+        let script = scripts.get(ends.len()).copied().unwrap_or(b"");
         let script = Vec::from_slice(alloc, script)?;
         let takes = Vec::from_slice(alloc, ways.takes)?;
         let puts = Vec::from_slice(alloc, ways.puts)?;

@@ -1,5 +1,5 @@
 use Rattle.std.proofs.Common.{◌∙◌}
-use Rattle.chem_rows.proofs.tests.call_on.Goals as goal
+use Rattle.chem_rows.proofs.tests.call_each.Goals as goal
 
 pub chemdb-requires-clause-ends : goal.chemdb-requires-clause-ends
 chemdb-requires-clause-ends g c κs within = λ asks.

@@ -1,0 +1,141 @@
+//! `serve` over disks in memory: what scripts are answered, and what is on the disks then.
+use super::{Answer, ONE_COMMIT, PLAIN, call_each, disk_of, put_by, run};
+use disk_edge::MemDisk;
+use std::alloc::{AllocError, Global};
+use std::sync::Wait;
+use std::test::Fail;
+use std::thread::Threads;
+
+// An empty store.
+const EMPTY: &[u8] = b"ZCHEMDB1\0";
+
+// What two scripts are answered over a first disk, by a store that may have so many commits.
+fn serve_two<R: Threads + Wait + Sync>(
+    rt: &R,
+    alloc: Global,
+    commits: &str,
+    disk: MemDisk,
+    scripts: &[&[u8]],
+) -> Result<Answer, AllocError> {
+    let words = ["--commits", commits, "serve", "f", "one", "other"];
+    let disks = (disk, MemDisk::new(alloc));
+    call_each(rt, alloc, &words, scripts, PLAIN, disks)
+}
+
+// What was put to the end of a number.
+fn put_to(answer: &Answer, number: usize) -> &[u8] {
+    match answer.ends.get(number) {
+        Some(end) => end.sink.bytes(),
+        None => &[],
+    }
+}
+
+// A store that may have one commit, and has it, is full for both ends.
+#[test]
+fn a_full_store_takes_of_no_end(rt: HostRuntime) -> Result<(), Fail> {
+    let alloc = rt.alloc();
+    let disk = disk_of(alloc, ONE_COMMIT)?;
+    let answer = serve_two(
+        &rt,
+        alloc,
+        "1",
+        disk,
+        &[b"register 2 C\n", b"register 3 C\n"],
+    )?;
+    assert_eq!(rt; answer.status, 0);
+    for number in 0..2 {
+        assert!(rt;
+            put_to(&answer, number) == b"refused full\n".as_slice(),
+            "end {number}"
+        );
+    }
+    assert!(rt; answer.a.bytes() == ONE_COMMIT);
+    Ok(())
+}
+
+// The version that an end was told for its registration, as a digit, if it was acknowledged.
+fn told(answer: &Answer, number: usize) -> Option<u8> {
+    let reply = put_to(answer, number);
+    if reply.starts_with(b"ok ") {
+        reply.get(3).copied()
+    } else {
+        None
+    }
+}
+
+// Whether a line shows what an end was told: a record of this version, if it was acknowledged.
+fn shows(line: &[u8], version: Option<u8>) -> bool {
+    match version {
+        Some(digit) => line.starts_with(b"record ") && line.get(17) == Some(&digit),
+        None => true,
+    }
+}
+
+// How many of two ends were acknowledged, at least one. `None` if one was answered anything else than `ok` or a disk
+// fault.
+fn acknowledged(answer: &Answer) -> Option<usize> {
+    let mut faults = 0_usize;
+    for number in 0..2 {
+        let reply = put_to(answer, number);
+        if reply.starts_with(b"fault disk ") {
+            faults = faults.saturating_add(1);
+        } else if !reply.starts_with(b"ok ") {
+            return None;
+        }
+    }
+    2_usize.checked_sub(faults).filter(|sure| *sure > 0)
+}
+
+// How many of two registrations, one by each end, were acknowledged over a disk whose call of this number fails, if the
+// image of this number loads to them. If the store was not loaded, none was, and nothing may have been put.
+fn kept<R: Threads + Wait + Sync>(
+    rt: &R,
+    alloc: Global,
+    call: u64,
+    image: u32,
+) -> Result<Option<usize>, AllocError> {
+    let mut disk = disk_of(alloc, EMPTY)?;
+    disk.fail_once(call);
+    let scripts: &[&[u8]] = &[b"register 1 C\n", b"register 2 N\n"];
+    let answer = serve_two(rt, alloc, "100", disk, scripts)?;
+    if answer.status == 5 {
+        let is_silent = put_to(&answer, 0).is_empty() && put_to(&answer, 1).is_empty();
+        return Ok(is_silent.then_some(0));
+    }
+    let sure = acknowledged(&answer);
+    let versions = [told(&answer, 0), told(&answer, 1)];
+    let is_done = answer.status == 0;
+    let shown = run(
+        rt,
+        alloc,
+        "show 1\nshow 2\n",
+        (answer.a.image(image), answer.b),
+    )?;
+    let mut lines = put_by(&shown).split(|byte| *byte == b'\n');
+    let first = shows(lines.next().unwrap_or(b""), versions[0]);
+    let second = shows(lines.next().unwrap_or(b""), versions[1]);
+    Ok(if is_done && first && second {
+        sure
+    } else {
+        None
+    })
+}
+
+// No call of that number is made: both are acknowledged.
+const NEVER: u64 = 1_000;
+
+#[test]
+fn each_call_of_the_disk_fails_in_turn_beside_two_ends(rt: HostRuntime) -> Result<(), Fail> {
+    for image in 0..6u32 {
+        assert_eq!(rt;
+            kept(&rt, rt.alloc(), NEVER, image)?,
+            Some(2),
+            "image {image}"
+        );
+        for call in 1..20u64 {
+            let sure = kept(&rt, rt.alloc(), call, image)?;
+            assert!(rt; sure.is_some(), "at {call}, image {image}");
+        }
+    }
+    Ok(())
+}
