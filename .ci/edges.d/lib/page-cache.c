@@ -8,14 +8,16 @@
 //
 // A sync writes the dirty pages to the device. One that fails writes some of them and loses the others. Between calls
 // some pages are written by themselves, some of these are lost, and some lost ones leave the memory: a read then gives
-// what the device has. posix_fadvise(DONTNEED) drops all clean pages. A cut is on the device after the next sync.
+// what the device has. A write makes its page dirty, even if it changes nothing. A cut is on the device after the next
+// sync.
 //
 //   PAGE_CACHE_SEED   what happens by chance
 //   PAGE_CACHE_FAIL   the numbers of the syncs that fail, counted from 1, joined by commas
 //   PAGE_CACHE_BACK   of a thousand writes, how many lose a page after them
-//   PAGE_CACHE_KILL   the number of the call (write, sync, cut, advice) in which the process is killed
+//   PAGE_CACHE_KILL   the number of the call (write, sync, cut) in which the process is killed
 //   PAGE_CACHE_WHERE  0 before that call, 1 in its middle, 2 after it
-//   PAGE_CACHE_DEAF   if it is set, the advice does nothing: a program that needs it loses commits then
+//   PAGE_CACHE_DEAF   if it is set, a write of one byte that changes nothing makes no page dirty: a program that needs
+//                     such writes loses commits then
 //   PAGE_CACHE_MOVED  if it is set, the file "store" is moved to this path before its lock is taken, and a new one made
 //
 // The kit's clang has no headers, so what is used of the C library is declared here. For Linux on x86-64 alone.
@@ -37,8 +39,8 @@ extern void *mmap(void *at, size length, int what, int how, int file, offset fro
 extern int munmap(void *at, size length);
 extern int *__errno_location(void);
 
-enum { LSEEK = 8, PREAD = 17, PWRITE = 18, GETPID = 39, KILL = 62, LOCK = 73, FSYNC = 74, CUT = 77, ADVISE = 221 };
-enum { READ_WRITE = 2, MAKE = 0100, SIGKILL = 9, EIO = 5, DONTNEED = 4, PAGE = 4096, MOST = 1 << 14 };
+enum { LSEEK = 8, PREAD = 17, PWRITE = 18, GETPID = 39, KILL = 62, LOCK = 73, FSYNC = 74, CUT = 77 };
+enum { READ_WRITE = 2, MAKE = 0100, SIGKILL = 9, EIO = 5, PAGE = 4096, MOST = 1 << 14 };
 enum { CLEAN, DIRTY, LOST };
 
 struct pages {
@@ -199,8 +201,12 @@ long pwrite(int file, const void *from, size count, offset at) {
   if (!is_seen(file, &it)) return write_at(file, from, count, at);
   int kill = killed();
   if (kill == 1) end();
+  char shown;
+  int is_again = count == 1 && read_at(file, &shown, 1, at) == 1 && shown == *(const char *)from;
+  if (is_again) note("again");
   long put = write_at(file, from, kill == 2 ? (count + 1) / 2 : count, at);
-  for (long page = at / PAGE; put > 0 && page <= (at + put - 1) / PAGE && page < MOST; page++)
+  int is_heard = !is_again || !getenv("PAGE_CACHE_DEAF");
+  for (long page = at / PAGE; is_heard && put > 0 && page <= (at + put - 1) / PAGE && page < MOST; page++)
     it.state->page[page] = DIRTY;
   if (kill) end();
   it.length = syscall(LSEEK, it.cache, 0, 2);
@@ -260,22 +266,6 @@ static int cut(int file, offset length) {
   return done;
 }
 
-static int advise(int file, offset at, offset length, int advice) {
-  struct seen it;
-  if (!is_seen(file, &it)) return (int)syscall(ADVISE, file, at, length, advice);
-  int kill = killed();
-  if (kill == 1) end();
-  note("advised");
-  for (long page = 0; advice == DONTNEED && !getenv("PAGE_CACHE_DEAF") && page < count(&it); page++) {
-    if (it.state->page[page] != LOST || (kill == 2 && below(2))) continue;
-    copy(it.device, it.cache, page, it.length);
-    it.state->page[page] = CLEAN;
-  }
-  if (kill) end();
-  leave(&it);
-  return 0;
-}
-
 int flock(int file, int how) {
   char path[4096];
   const char *name = inside(file, path, sizeof path), *moved = getenv("PAGE_CACHE_MOVED");
@@ -289,5 +279,3 @@ int fsync(int file) { return sync(file); }
 int fdatasync(int file) { return sync(file); }
 int ftruncate(int file, offset length) { return cut(file, length); }
 int ftruncate64(int file, offset length) { return cut(file, length); }
-int posix_fadvise(int file, offset at, offset length, int advice) { return advise(file, at, length, advice); }
-int posix_fadvise64(int file, offset at, offset length, int advice) { return advise(file, at, length, advice); }
