@@ -18,6 +18,7 @@ worker; what was answered as registered is there.
 from __future__ import annotations
 
 import os
+import pickle
 import threading
 import time
 import uuid
@@ -91,8 +92,10 @@ class Part:
     def close(self) -> None:
         self.db.close()
 
-    def load(self, rows: Rows, new: bool, again: bool) -> chemdb.Loaded:
-        registered, refused, faults = self.db.load([row[1:] for row in rows], new, None)
+    def load(self, pickled: bytes, again: bool) -> chemdb.Loaded:
+        """Registers rows. They come as bytes, since dask hands a list on element by element."""
+        rows: Rows = pickle.loads(pickled)
+        registered, refused, faults = self.db.load([row[1:] for row in rows], progress=None)
         left = []
         for failed in refused:
             _, identifier, text, error = failed
@@ -268,7 +271,7 @@ class Parts:
             for part in range(len(self.files)):
                 mine = [row for row in batch if self.part_of(row[1]) == part]
                 if mine:
-                    sent.append(self._send(part, "load", mine, False, again))
+                    sent.append(self._send(part, "load", pickle.dumps(mine), again))
             for _ in range(waiting if batch else len(sent)):
                 yield self._receive(*sent.popleft())
             if not batch:
