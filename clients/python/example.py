@@ -14,5 +14,5 @@ with chemdb.run("reagents.db", "./chemdb") as db:
     loaded = db.load([(104, "CCO"), (105, "C("), (106, "CCN")])
     print(loaded.registered, "registered")
     for failed in loaded.refused:
-        print("row", failed.number, failed.text, failed.error.reply)
+        print("not taken:", failed.number, failed.text, failed.error.reply)
     print(db.stats())
