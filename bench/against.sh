@@ -6,29 +6,33 @@
 #
 # OLD and NEW are programs, as `./build` leaves one in crates/chemdb/out/chemdb. CATALOGUE is a .smi or .smi.gz file: a
 # SMILES at the start of each line; what OLD refuses is left out. Without it structures are made, by a fixed seed: rings,
-# chains, groups, halogens and other elements, 15 to 45 atoms, no two the same by OLD's own `register-new`.
+# chains, groups, halogens and other elements, of 15 to 45 atoms, no two the same by the `register-new` of OLD.
 #
 #   --count N        structures; 100000 if left out
 #   --rounds N       5 if left out
-#   --patterns FILE  a SMARTS and its kind in each line, with a tab between: the rows `pains` and `filters` take the first
-#                    240 of kind PAINS and 400 of kind filter, with written hydrogens made counts by tools/counts
-#   --hostile FILE   a name and a SMILES in each line, with a tab between, for the row `hostile`
-#   --only ROW       one row, by its word below; may be given several times
+#   --patterns FILE  for `pains` and `filters`: a SMARTS and its kind in each line, with a tab between; hydrogens that
+#                    are written as atoms are made counts by tools/counts
+#   --hostile FILE   for `hostile`: a name and a SMILES in each line, with a tab between
+#   --only ROWS      these rows alone, by a word of the list below; may be given several times
 #   --folder PATH    where stores are put; /dev/shm, a disk in memory, if left out
 #
 # Rows:
-#   searches  the 34 searches of bench/serve.sh, one worker        open      opening a store that was filled in a commit each
-#   workers   the same with four workers                           compact   all steps of a compaction, half revised before
-#   pains, filters  those of FILE                                  serve     four ends that search, with an end beside
-#   same      200 lookups                                                    them that commits all the while, and without
-#   similar   20 lookups, of 7 / 10 or more                        hostile   dear patterns, those of bench/match.sh among
-#   register  registrations, ascending and in random order,                  them, and structures of FILE: all, and the
-#             and VmHWM while the input is open                              line whose ratio is the greatest
-#   prune     a prune that drops a third, without and with 34 cursors that hold a page each
+#   searches   the 34 searches of bench/serve.sh, one worker
+#   workers    these with four workers
+#   pains      searches for the first 240 patterns of kind PAINS; left out, and said so, without --patterns
+#   filters    and for the first 400 of kind filter
+#   same       200 lookups by `same`
+#   similar    20 lookups by `similar 7 10 20`
+#   register   registrations, identifiers in ascending and in random order, and VmHWM while the input is open
+#   prune      a prune of what a third of revisions superseded, without and with 34 cursors that hold a page each
+#   open       opening a store in a file, each structure a commit, plain and with --workers 4
+#   compact    all steps of a compaction of it, half of the structures revised before
+#   serve      searches a second of four ends, without and with one beside them that commits all the while
+#   hostile    dear patterns, those of bench/match.sh among them, and structures of --hostile: the sum, and the line
+#              whose ratio is the greatest
 #
-# Time is the processor's, of all threads of the process, those that ended too, and so hardly depends on what else runs;
-# but of `workers`, `serve` and `open` it is the clock's, since they use several processors: let nothing run beside these.
-# With 100,000 structures all rows take some ten minutes and 2 GB of memory; `--count 1000 --rounds 2` shows in seconds
-# that all goes well, and no more.
+# Time is that of the processor, of all threads of the process and of those that ended, so it depends little on what else
+# runs. Of `workers`, `open` and `serve` it is the clock's, since they use several processors: let nothing run beside it.
+# With 100,000 structures all rows take some ten minutes (reckoned, not timed). `--count 1000 --rounds 2` is a quick try.
 set -euo pipefail
 exec python3 "$(dirname "${BASH_SOURCE[0]}")/against.py" "$@"
