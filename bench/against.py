@@ -109,7 +109,7 @@ class Bench:
     def of_kind(self, kind, most):
         """Searches for the patterns of a kind."""
         if not self.options.patterns:
-            print(f"against: no file of patterns, so no row of kind {kind}", file=sys.stderr)
+            print(f"left out, for want of --patterns: searches of kind {kind}")
             return
         with open(self.options.patterns, encoding="utf-8") as file:
             found = [line.split("\t")[0] for line in file if line.rstrip("\n").split("\t")[1:] == [kind]][:most]
@@ -234,7 +234,7 @@ class Bench:
                 for name, text in (line.rstrip("\n").split("\t") for line in file):
                     cases.append(("hostile structure", name, [f"register 1 {text}"], f"register 1 {text}"))
         else:
-            print("against: no file of hostile structures, so no row of these", file=sys.stderr)
+            print("left out, for want of --hostile: hostile structures")
 
         def answered(side, fill, lines):
             with Session(self.programs[side], "mem") as session:
@@ -294,7 +294,7 @@ def served(words, scripts):
 
 def main():
     rows = "searches workers pains filters same similar register prune open compact serve hostile".split()
-    parser = argparse.ArgumentParser(prog="bench/against.sh", epilog="The head of bench/against.sh says more.")
+    parser = argparse.ArgumentParser(prog="bench/against.sh", usage="bench/against.sh --help", add_help=False)
     parser.add_argument("old")
     parser.add_argument("new")
     parser.add_argument("catalogue", nargs="?")
@@ -305,6 +305,9 @@ def main():
     parser.add_argument("--only", action="append", choices=rows)
     parser.add_argument("--folder", default="/dev/shm")
     options = parser.parse_args()
+    for program in (options.old, options.new):
+        if not os.access(program, os.X_OK):
+            parser.error(f"{program} is no program")
     options.old, options.new = os.path.abspath(options.old), os.path.abspath(options.new)
     with tempfile.TemporaryDirectory(dir=options.folder) as room, contextlib.ExitStack() as held:
         bench = Bench(options, room, held)
@@ -313,6 +316,7 @@ def main():
         for row in options.only or rows:
             getattr(bench, row)()
     bench.table.put()
+    sys.exit(False in bench.table.equal.values())
 
 
 main()

@@ -5,8 +5,8 @@
 # Usage: bench/against.sh [OPTIONS] OLD NEW [CATALOGUE]
 #
 # OLD and NEW are programs, as `./build` leaves one in crates/chemdb/out/chemdb. CATALOGUE is a .smi or .smi.gz file: a
-# SMILES at the start of each line; what OLD refuses is left out. Without it structures are made, by a fixed seed: rings,
-# chains, groups, halogens and other elements, of 15 to 45 atoms, no two the same by the `register-new` of OLD.
+# SMILES at the start of each line; what OLD refuses is left out. Without it structures are made, by a fixed seed:
+# rings, chains, groups, halogens and other elements, of 15 to 45 atoms, no two the same by the `register-new` of OLD.
 #
 #   --count N        structures; 100000 if left out
 #   --rounds N       5 if left out
@@ -31,8 +31,15 @@
 #   hostile    dear patterns, those of bench/match.sh among them, and structures of --hostile: the sum, and the line
 #              whose ratio is the greatest
 #
-# Time is that of the processor, of all threads of the process and of those that ended, so it depends little on what else
-# runs. Of `workers`, `open` and `serve` it is the clock's, since they use several processors: let nothing run beside it.
-# With 100,000 structures all rows take some ten minutes (reckoned, not timed). `--count 1000 --rounds 2` is a quick try.
+# Time is that of the processor, of all threads of the process and of those that ended, so it depends little on what
+# else runs. Of `workers`, `open` and `serve` it is the clock's, since they use several processors: let nothing run
+# beside it. With 100,000 structures all rows take some ten minutes (reckoned, not timed); `--count 1000 --rounds 2` is
+# a quick try. It needs Python 3.10.
+#
+# Exit status: 0 all replies are equal; 1 some differ, or a program ended; 2 the command line is not understood.
 set -euo pipefail
+if [ $# -eq 0 ] || [ "$1" = --help ]; then
+  sed -n '2,/^set /{ /^set /d; s/^# \{0,1\}//; p; }' "${BASH_SOURCE[0]}"
+  exit
+fi
 exec python3 "$(dirname "${BASH_SOURCE[0]}")/against.py" "$@"

@@ -31,11 +31,11 @@ SALTS = [""] * 30 + [".Cl", ".[Na+]", ".OC(=O)C=CC(=O)O"]
 
 def hang(draw, atom, depth):
     """A ring by a link, or a group, as it may hang on an atom."""
-    late = atom.upper() == "N"
+    at_nitrogen = atom == "N"
     if depth < 4 and draw.random() < 0.45:
-        links = LINKS[FIRST_CARBON if late else 0:]
+        links = LINKS[FIRST_CARBON if at_nitrogen else 0:]
         return ("" if draw.random() < 0.3 else draw.choice(links)) + ring_text(draw, depth)
-    return draw.choice(GROUPS[FIRST_CARBON_GROUP if late else 0:])
+    return draw.choice(GROUPS[FIRST_CARBON_GROUP if at_nitrogen else 0:])
 
 
 def ring_text(draw, depth):
@@ -49,13 +49,13 @@ def ring_text(draw, depth):
 
 
 def elements(text):
-    """The symbols of the atoms that are not hydrogen, in order: the same for texts of one structure."""
+    """The symbols of all atoms but hydrogens, sorted; two texts of one structure have the same."""
     return sorted(symbol.upper() for symbol in re.findall("Cl|Br|Si|Na|[BCNOPSFIbcnops]", text))
 
 
 def shelves(count):
-    """So many texts and some more, numbered as they were drawn. Only those of one shelf may be of one structure, since
-    those of others have other elements; and some may be refused."""
+    """Texts, a tenth more than asked for, numbered as they were drawn. Two of one structure have the same elements and
+    so stand on one shelf. A program may refuse some."""
     draw, found, drawn = random.Random(57), [[] for _ in range(64)], 0
     while drawn < count * 1.1 + 50:
         text = draw.choice(ROOTS) + ring_text(draw, 0) + draw.choice(SALTS)

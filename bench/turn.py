@@ -25,7 +25,7 @@ class Answer(NamedTuple):
 
 
 class Session:
-    """A program that reads lines from a pipe. Its end is not waited for."""
+    """A program that reads lines from a pipe, and is killed behind its `with`."""
 
     def __init__(self, program, *words):
         self.start = time.monotonic()
@@ -89,9 +89,11 @@ class Table:
                     for row, value, reply in once(side, step):
                         sums.setdefault(row, [0.0, 0.0])[side] += value
                         replies.setdefault(row, []).append(reply)
-                for row, both in replies.items():
-                    if both[0] is not None:
-                        self.equal[row] = self.equal.get(row, True) and both[0] == both[1]
+                for row, (one, other) in replies.items():
+                    if one is not None:
+                        self.equal[row] = self.equal.get(row, True) and one == other
+                    if one != other:
+                        print(f"against: {row[0]}: replies differ: {str(step)[:100]}", file=sys.stderr)
             for row, pair in sums.items():
                 self.values.setdefault(row, []).append(pair)
                 print(f"against: round {number + 1}, {row[0]}: {shown(pair[0], row[1])}, {shown(pair[1], row[1])}",
