@@ -20,7 +20,7 @@ FOUR = ("--workers", "4")
 # How many lines an end commits at most beside four ends that search.
 COMMITS = 200_000
 # Seconds that a hostile line is repeated for.
-REPEATED = 0.02
+REPEATED = 0.05
 # The replies to a script of `serve` whose last line is `stats`.
 ENDED = re.compile(rb"\nstats [^\n]*\n\Z")
 

@@ -34,7 +34,8 @@
 # Time is that of the processor, of all threads of the process and of those that ended, so it depends little on what
 # else runs. Of `workers`, `open` and `serve` it is the clock's, since they use several processors: let nothing run
 # beside it. With 100,000 structures all rows take some ten minutes (reckoned, not timed); `--count 1000 --rounds 2` is
-# a quick try. It needs Python 3.10.
+# a quick try. OLD against itself shows what chance alone gives; of the greatest ratio of `hostile` that is most. It
+# needs Python 3.10.
 #
 # Exit status: 0 all replies are equal; 1 some differ, or a program ended; 2 the command line is not understood.
 set -euo pipefail
