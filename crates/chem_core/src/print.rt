@@ -49,6 +49,13 @@ impl Print {
         has_bit(&self.words, bit)
     }
 
+    /// The bits, 64 in a word: bit 0 is the lowest of the first.
+    pub fn words(&self) -> &[u64; 16]
+        ensures { bits_of result.now ≡ self.now }
+    {
+        &self.words
+    }
+
     /// Whether every bit of `need` is set in this print.
     pub fn holds(&self, need: &Print) -> bool
         ensures value { IsTrue result ↔ ((bit : ℕ) → HasBit need.now bit → HasBit self.now bit) }

@@ -166,7 +166,7 @@ const PLAIN: Ways<'static> = Ways {
     puts: &[],
 };
 
-// What the words do over empty disks and the ends that they have, each with a source of this script.
+// What the words leave over empty disks; each of their ends reads this script.
 fn call<R: Threads + Wait + Sync>(
     rt: &R,
     alloc: Global,
@@ -180,7 +180,7 @@ fn call<R: Threads + Wait + Sync>(
     call_on(rt, alloc, words, script, ways, disks)
 }
 
-// The same over these disks.
+// As `call`, but over these disks.
 fn call_on<R: Threads + Wait + Sync, D: Disk + Send + Drop>(
     rt: &R,
     alloc: Global,
@@ -194,7 +194,7 @@ fn call_on<R: Threads + Wait + Sync, D: Disk + Send + Drop>(
     call_each(rt, alloc, words, &[script], ways, disks)
 }
 
-// The same with a script for each end.
+// As `call_on`, but each end reads a script of its own.
 fn call_each<R: Threads + Wait + Sync, D: Disk + Send + Drop>(
     rt: &R,
     alloc: Global,
@@ -231,8 +231,8 @@ fn has_left(answer: &Answer, replies: &str, left: (&[u8], &[u8])) -> bool {
     put_by(answer) == replies.as_bytes() && answer.a.bytes() == left.0 && answer.b.bytes() == left.1
 }
 
-// Whether `run` of a script over two disks with these bytes ends with a status and a place of damage, has these replies,
-// and leaves these bytes on the disks.
+// Whether `run` of a script over two disks with these bytes ends with a status and a place of damage, has these
+// replies, and leaves these bytes on the disks.
 fn run_leaves<R: Threads + Wait + Sync>(
     rt: &R,
     alloc: Global,

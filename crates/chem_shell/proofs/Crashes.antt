@@ -57,10 +57,12 @@ module _ (grow : RebasesGrow) (first : State) (before : List Step) (x : Step) (p
   shows-at h past opens (inl (inl now)) = shows-none h x.before.base (inl (refl, now.1)) now.0 opens
   shows-at h past opens (inl (inr (inl (c, doubt, e, same)))) =
       shows-one h c past same (inr (c, refl, inl doubt)) e opens
-  shows-at h past opens (inl (inr (inr (version, may, e, next)))) =
-      shows-none h version (inr (may, next, refl)) e opens
-  shows-at h past opens (inr (c, event, may, e, same)) =
+  shows-at h past opens (inl (inr (inr (version, finish, (e, next))))) =
+      shows-none h version (inr (inl finish, next, refl)) e opens
+  shows-at h past opens (inr (inl (c, event, may, e, same))) =
       shows-one h c past same (inr (c, refl, inr (event, may))) e opens
+  shows-at h past opens (inr (inr (version, event, whole, (e, next)))) =
+      shows-none h version (inr (inr (event, whole), next, refl)) e opens
 
 -- a run up to one of its steps
 record Up (s : State) (before : List Step) (x : Step) : Type 0 where

@@ -157,7 +157,7 @@ one_origin : {O : Type 0} (x y : O) → x ∷ [] ≡ y ∷ [] → x ≡ y
 one_origin x y e = cc e
 
 module _ {D : Type 0} (model : DiskModel D) (store : StoreTerm D) (old : HallPass D)
-    (begins : Begins model store old) where
+    (begins : Begins model store true old) where
   -- the run of a hall is a stretch from the state at which it begins
   pub stretch_of : (left : StoreTerm D) (new : HallPass D) (steps : List Step) → Ends model new left
       → (known new).origin ≡ (known old).origin → (known new).seen ≡ (known old).seen ++ steps
@@ -191,7 +191,7 @@ module _ {D S K : Type 0} (model : DiskModel D) (source : taken.Ghosts S) (sink 
     (disks : Disks D) (store : StoreTerm D) (standing : StandingOpens model store) (s : State)
     (stands : StandsFor model store s) (opened : IsOpened plan.commits s)
     (read_a : Narrows model disks.a (disk_a store.pair)) (read_b : Narrows model disks.b (disk_b store.pair))
-    (old : HallPass D) (begins : Begins model store old) where
+    (old : HallPass D) (begins : Begins model store true old) where
   -- what the run of a hall leaves of the disks, for all of its steps
   hall_on_disks : (left : StoreTerm D) → StandingOpens model left → (new : HallPass D) (now : Disks D)
       (steps : List Step) → Ends model new left → (known new).origin ≡ (known old).origin
@@ -201,8 +201,8 @@ module _ {D S K : Type 0} (model : DiskModel D) (source : taken.Ghosts S) (sink 
       × IsRun begins.origin.state steps (after begins.origin.state steps) × IsCalm steps
   hall_on_disks left standing' new now steps ends origin seen a b =
       let stretch = stretch_of model store old begins left new steps ends origin seen in
-      let first = opened_in model begins.opened.0 plan.commits store s begins.origin.state opened stands begins.stands
-      begins.opened.1 in
+      let at = begins.start.opened refl in
+      let first = opened_in model at.0 plan.commits store s begins.origin.state opened stands begins.stands at.1 in
       let on = on_these_disks adds stay grow model plan.commits disks begins.origin.state store left standing'
       begins.stands first (opens_at rest model content_is_image store begins.origin.state
       (standing begins.origin.state begins.stands) begins.stands plan.commits first disks read_a read_b) read_a read_b

@@ -7,7 +7,7 @@ use Rattle.store_disk.specs.Loads.{OpensAfter, OpensTo}
 use Rattle.store_disk.specs.OnDisk.{StandsFor, StoreTerm}
 use Rattle.store_disk.specs.declared.disks.Disks.{Disks}
 use Rattle.store_machine.specs.History.{rebase}
-use Rattle.store_machine.specs.Machine.{MayFinish, Recovers, on_disk}
+use Rattle.store_machine.specs.Machine.{MayBeLeft, on_disk}
 use Rattle.store_machine.specs.Openings.{IsOpened}
 use Rattle.store_machine.specs.Rebases.{RebasesStay}
 use Rattle.store_machine.specs.declared.machine.History.{History}
@@ -20,19 +20,14 @@ none_is_some x e = cc e
 not_some : {X : Type 0} (o : Option X) (x : X) → o ≡ None → o ≡ Some x → ⊥
 not_some o x none some = none_is_some x (sym none ∙ some)
 
-never_finishes : (commits : ℕ) (s : State) (version : ℕ) → IsOpened commits s → MayFinish s version → ⊥
-never_finishes commits s version opened (inl finish) = not_some s.finish version opened.finish finish
-never_finishes commits s version opened (inr whole) =
-    not_some s.copy (record { version = version; left = 0 }) opened.copy whole
-
--- what may be recovered of a state as an opening leaves it is its history
-recovers_all : RebasesStay → (commits : ℕ) (s : State) (h : History) (generation : ℕ) → IsOpened commits s
-    → on_disk s ≡ s.history → Recovers s h generation → (h ≡ s.history) × (generation ≡ s.generation)
-recovers_all stay commits s h generation opened whole (inl now) = (now.0 ∙ whole, now.1)
-recovers_all stay commits s h generation opened whole (inr (inl doubted)) =
+-- what may be left of a state as an opening leaves it is its history
+left_whole : RebasesStay → (commits : ℕ) (s : State) (h : History) (generation : ℕ) → IsOpened commits s
+    → on_disk s ≡ s.history → MayBeLeft s h generation → (h ≡ s.history) × (generation ≡ s.generation)
+left_whole stay commits s h generation opened whole (inl now) = (now.0 ∙ whole, now.1)
+left_whole stay commits s h generation opened whole (inr (inl doubted)) =
     absurd (not_some s.doubt doubted.0 opened.doubt doubted.1)
-recovers_all stay commits s h generation opened whole (inr (inr copied)) =
-    absurd (never_finishes commits s copied.0 opened copied.1)
+left_whole stay commits s h generation opened whole (inr (inr copied)) =
+    absurd (not_some s.finish copied.0 opened.finish copied.1)
 
 -- a state without pins as an opening leaves it, with the limit of the store that stands for it
 pub opened_in : {D : Type 0} (model : DiskModel D) (n commits : ℕ) (store : StoreTerm D) (s t : State)
@@ -60,5 +55,5 @@ opens_at stay model read store s standing stands commits opened disks read_a rea
     let told_b = read_b.same ∙ it in
     let o = standing l told_a m told_b l m (read (disk_a store.pair) l told_a) (read (disk_b store.pair) m told_b) in
     let whole = ap (λ (d : ℕ). rebase s.history d) opened.base ∙ stay s.history stands.memory.sound.history in
-    let all = recovers_all stay commits s o.0 o.1 opened whole o.2 in
+    let all = left_whole stay commits s o.0 o.1 opened whole o.2 in
     subst (λ (g : ℕ). OpensTo s.history g l m) all.1 (subst (λ (h : History). OpensTo h o.1 l m) all.0 o.3)

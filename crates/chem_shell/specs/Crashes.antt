@@ -2,10 +2,10 @@
 use Rattle.std.specs.Prelude.{◌≡◌, ◌⊎◌, ◌++◌, ◌+◌, ℕ, List, [], ◌∷◌, Some}
 use Rattle.store_disk.specs.Loads.{OpensTo}
 use Rattle.store_machine.specs.History.{grown, rebase}
-use Rattle.store_machine.specs.Machine.{MayAdd, MayFinish}
+use Rattle.store_machine.specs.Machine.{IsWhole, MayAdd}
 use Rattle.store_machine.specs.Told.{acknowledged}
 use Rattle.store_machine.specs.declared.machine.Change.{Change}
-use Rattle.store_machine.specs.declared.machine.Event.TheVariants.{Commit}
+use Rattle.store_machine.specs.declared.machine.Event.TheVariants.{Commit, Compact}
 use Rattle.store_machine.specs.declared.machine.State.{State}
 use Rattle.store_machine.specs.declared.machine.Step.{Step}
 
@@ -15,11 +15,14 @@ abbrev pub IsAtMostOne : Step → List Change → Type 0
 IsAtMostOne x more = (more ≡ []) ⊎ ((c : Change) × (more ≡ c ∷ [])
     × ((x.before.doubt ≡ Some c) ⊎ ((x.event ≡ Commit c) × MayAdd x.before c)))
 
--- The base and the generation are those from before the step, or those of a copy whose finish is in doubt or under way,
--- and then there is no such commit
+-- the copy of a version is open at a moment of the step: its finish was in doubt, or the step may finish it
+abbrev pub MayFinish : Step → ℕ → Type 0
+MayFinish x version = (x.before.finish ≡ Some version) ⊎ ((x.event ≡ Compact) × IsWhole x.before version)
+
+-- The base and the generation are those from before the step, or those of such a copy, and then there is no such commit
 abbrev pub IsBasedAt : Step → List Change → ℕ → ℕ → Type 0
 IsBasedAt x more base generation = ((base ≡ x.before.base) × (generation ≡ x.before.generation))
-    ⊎ (MayFinish x.before base × (generation ≡ x.before.generation + 1) × (more ≡ []))
+    ⊎ (MayFinish x base × (generation ≡ x.before.generation + 1) × (more ≡ []))
 
 -- The two images open to the history from before the run, each commit that was acknowledged by the steps before this
 -- one, in order, and after them at most one that was not; all this from the base on

@@ -48,9 +48,9 @@ pub record Creates {D : Type 0} (model : DiskModel D) (old new : Disks D) (statu
 -- other on the disks' clocks, from the times at which the store was loaded to now. A crash while it was loaded left
 -- images that the disks had. One at a moment of a step leaves of each disk an image of a moment of that step; each two
 -- open to each commit that was acknowledged before it, in order, and at most one more. Now each two images open to the
--- run's history, or to this and the commit in doubt, or to a copy whose finish is in doubt or under way. The counts of
--- faults in the run's states are the disks'; only a commit and a copy call a disk, and are answered that one failed
--- only where one counted a fault
+-- run's history, or to this and the commit in doubt, or to a copy whose finish is in doubt, and never to a copy that
+-- runs. The counts of faults in the run's states are the disks'; only a commit and a copy call a disk, and are answered
+-- that one failed only where one counted a fault
 pub record AreOnDisks {D : Type 0} (model : DiskModel D) (commits : ℕ) (old new : Disks D) (calls : Calls) : Type 0
   where
     pub first : State

@@ -23,6 +23,7 @@ use par_search::NoMeter;
 use serve_ends::{End, serve_ends};
 use session_run::services_are_true;
 use std::alloc::Global;
+use std::snapshot::Snapshot;
 use std::sync::Wait;
 use std::thread::Threads;
 use store_disk::{Disks, Store, a_standing_store_opens};
@@ -71,7 +72,7 @@ fn serve_loaded<
     runs_stay_sound();
     rebases_keep();
     a_standing_store_opens(&store);
-    match Hall::start(alloc, store) {
+    match Hall::start(alloc, store, Snapshot::of(&true)) {
         Ok((hall, mut pass)) => {
             let (ends, served) = serve_ends(
                 rt,

@@ -75,7 +75,7 @@ pub fn chemdb<
     ensures mem { OnPlan (texts words.now) Verb.Mem (λ plan. (disks_of result ≡ record { a = a; b = b })
         × AllZip (ServesMem plan S.left K.written) ends.items result.ends.items) }
 
-    // `init`: where it is done, both disks were empty, `a` has the empty store, and no crash leaves a byte on `b`. Where
+    // `init`: if it is done, both disks were empty, `a` has the empty store, and no crash leaves a byte on `b`. Where
     // one has bytes both are as before. Disk `b` is only read and synced.
     ensures init { OnPlan (texts words.now) Verb.Init (λ _. (result.ends.items ≡ [])
         × Creates D.model (record { a = a; b = b }) (disks_of result) result.status) }
@@ -90,9 +90,9 @@ pub fn chemdb<
         ends.items result.ends.items) }
 
     // `serve`: where the store was not loaded, or memory ran out before any end was served, nothing was taken or put,
-    // the disks were only read, and each end has the overall status. Else there is one run on the disks, as for `run`. Each end has one owner's steps of
-    // it, numbered from 1 in the order of the ends, and no step is another's; what was written to an end is a prefix of
-    // a transcript by its steps.
+    // the disks were only read, and each end has the overall status. Else there is one run on the disks, as for `run`.
+    // Each end has one owner's steps of it, numbered from 1 in the order of the ends, and no step is another's; what
+    // was written to an end is a prefix of a transcript by its steps.
     ensures serve { OnPlan (texts words.now) Verb.Serve (λ plan.
         AllZip (IsRefusedAs D.model (record { a = a; b = b }) (disks_of result) result.status)
         ends.items result.ends.items

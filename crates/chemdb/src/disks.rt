@@ -7,6 +7,7 @@ use disk_pair::{Which, which_is_read};
 use journal_core::peek_header;
 use std::alloc::{AllocError, Global};
 use std::fs::{self, File, Files};
+use std::io::ErrorKind;
 
 /// The two disks that the words ask for, the path of the first one's file, and the generation that is read, where both
 /// files are held and one of them is open: a store is there then, and stays locked.
@@ -87,6 +88,7 @@ fn followed<R: AllocGlobal + Files<File = File>>(
     }
     match fs::canonicalize(rt, path) {
         Ok(end) => of_first(rt, alloc, end.as_str()),
+        Err(error) if error.kind() == ErrorKind::OutOfMemory => Err(AllocError),
         Err(_) => Ok(None),
     }
 }

@@ -7,8 +7,8 @@ use std::alloc::{AllocError, Global};
 use std::fs::{self, File, Files, Metadata, OpenOptions};
 use std::os::unix::fs::{FileExt, MetadataExt};
 
-/// A script's file, under a lock that other readers may share. Each read of one that could not be opened, or that is
-/// written elsewhere, fails.
+/// A script's file, under a shared lock. Each read fails if the file could not be opened, or if its lock was held by a
+/// writer.
 #[derive(Drop)]
 pub struct Script {
     file: Option<StdSource<File>>,
@@ -42,8 +42,8 @@ impl Source for Script {
     }
 }
 
-/// A file for replies, under an exclusive lock. Each write to one that could not be made, or that is read or written
-/// elsewhere, fails.
+/// A file for replies, under an exclusive lock. Each write fails if the file could not be made, or if its lock was held
+/// by a reader or a writer.
 #[derive(Drop)]
 pub struct Replies {
     file: Option<StdSink<File>>,
@@ -52,7 +52,7 @@ pub struct Replies {
 }
 
 impl Replies {
-    // Nothing is open yet.
+    // No file: each write fails.
     fn none() -> Replies {
         Replies {
             file: None,
@@ -60,7 +60,7 @@ impl Replies {
         }
     }
 
-    // What the file has goes.
+    // The file of this path, made if nothing is there, and emptied.
     fn create<R: Files<File = File>>(rt: &R, path: &str, scripts: &[&str]) -> Replies {
         Replies {
             file: emptied(rt, path, scripts).map(StdSink::new),
@@ -86,10 +86,12 @@ impl Sink for Replies {
     }
 }
 
-/// An end for each script: it reads the file of that name, and its replies go to the file of that name with `.out`
-/// appended, which is made anew. All scripts are opened first, and what is locked is left as it is, so that no replies
-/// take the place of the store, of a script or of another's replies. What begins as a store is left too. Without
-/// `has_store` the store may not be locked: no file is made or emptied then.
+/// An end for each script. It reads the file of that name, and its replies go to the file of that name with `.out`
+/// appended, which is emptied before.
+///
+/// Replies never take the place of the store, of a script or of another script's replies: all scripts are opened and
+/// locked first, and a file that is locked stays as it is. So does a file that begins as a store does. Without
+/// `has_store` the files of the store may not be locked, so no file for replies is made or emptied.
 pub fn script_ends<R: Files<File = File>>(
     rt: &R,
     alloc: Global,
@@ -105,7 +107,7 @@ pub fn script_ends<R: Files<File = File>>(
     Ok(ends)
 }
 
-// An end for each script, without replies.
+// An end for each script, which has no file for its replies yet.
 fn open_scripts<R: Files<File = File>>(
     rt: &R,
     alloc: Global,
@@ -124,7 +126,7 @@ fn open_scripts<R: Files<File = File>>(
     Ok(ends)
 }
 
-// Makes a file for the replies to each script.
+// Opens the file for the replies to each script.
 fn create_replies<R: Files<File = File>>(
     rt: &R,
     alloc: Global,
@@ -140,15 +142,17 @@ fn create_replies<R: Files<File = File>>(
     Ok(())
 }
 
-// The file of this path for reading, where nothing else writes it.
+// The file of this path, open for reading, under a shared lock. `None` if it cannot be opened, or if a writer holds its
+// lock.
 fn readable<R: Files<File = File>>(rt: &R, path: &str) -> Option<File> {
     let file = File::open(rt, path).ok()?;
     file.try_lock_shared().ok()?;
     Some(file)
 }
 
-// The file of this path for writing, made where nothing is there, and emptied where nothing else reads or writes it, it
-// is none of the scripts, of which one may not be open, and no store's. A pipe or a terminal stays as it is.
+// The file of this path, open for writing, under an exclusive lock, and empty. It is made if nothing is there. `None`,
+// and the file stays as it is, if its lock is held, if it is one of the scripts (which may not be open, and so not be
+// locked), or if it may be a store. No pipe or terminal is emptied.
 fn emptied<R: Files<File = File>>(rt: &R, path: &str, scripts: &[&str]) -> Option<File> {
     let file = OpenOptions::new()
         .write(true)
@@ -169,7 +173,7 @@ fn emptied<R: Files<File = File>>(rt: &R, path: &str, scripts: &[&str]) -> Optio
     Some(file)
 }
 
-// Whether one of the scripts' names leads to this file.
+// Whether this file is one of the scripts, by whatever name.
 fn is_script<R: Files<File = File>>(rt: &R, file: &Metadata, scripts: &[&str]) -> bool {
     for script in scripts {
         if let Ok(named) = fs::metadata(rt, script) {
@@ -181,12 +185,12 @@ fn is_script<R: Files<File = File>>(rt: &R, file: &Metadata, scripts: &[&str]) -
     false
 }
 
-// Whether both are of one file.
+// Whether both are the same file.
 fn is_same(a: &Metadata, b: &Metadata) -> bool {
     a.dev() == b.dev() && a.ino() == b.ino()
 }
 
-// Whether the file of this path begins as a store does, or cannot be read. A shorter one is none.
+// Whether the file of this path begins as a store does. True if it cannot be read; false if it is too short for one.
 fn may_be_store<R: Files<File = File>>(rt: &R, path: &str, file: &Metadata) -> bool {
     if file.len() < 8 {
         return false;
@@ -197,7 +201,7 @@ fn may_be_store<R: Files<File = File>>(rt: &R, path: &str, file: &Metadata) -> b
     }
 }
 
-// The first bytes of the file of this path, which is this one.
+// The first bytes of the file of this path. `None` if the path names another file by now, or cannot be read.
 fn start_of<R: Files<File = File>>(rt: &R, path: &str, file: &Metadata) -> Option<[u8; 8]> {
     let opened = File::open(rt, path).ok()?;
     if !is_same(&opened.metadata().ok()?, file) {
@@ -208,7 +212,8 @@ fn start_of<R: Files<File = File>>(rt: &R, path: &str, file: &Metadata) -> Optio
     Some(start)
 }
 
-// Whether these bytes begin a store, or a copy that was not finished, whose gate is shut: whatever the gate is.
+// Whether a store begins with these bytes. The first one, its gate, may be any: a copy that was not finished has a shut
+// one.
 fn is_start(start: &[u8; 8]) -> bool {
     matches!(start, [_, b'C', b'H', b'E', b'M', b'D', b'B', b'1' | b'2'])
 }

@@ -69,7 +69,7 @@ where
     }
 }
 
-/// The same for these words. Where they ask for nothing, it says why.
+/// As `run`, for these words. If they ask for nothing, it says why on standard error.
 fn run_words<R: AllocGlobal + Files<File = File> + Input + Print + Eprint + Threads + Wait + Sync>(
     rt: &R,
     words: &[String],
@@ -92,8 +92,8 @@ where
     Ok(status)
 }
 
-/// The ends are the scripts that the words name, and their replies, or else standard input and output. Where the store is
-/// damaged, it says which file is, and from which byte on.
+/// The ends are the scripts that the words name, and their replies, or else standard input and output. Where the store
+/// is damaged, it says which file is, and from which byte on.
 fn serve<R: AllocGlobal + Files<File = File> + Input + Print + Eprint + Threads + Wait + Sync>(
     rt: &R,
     alloc: Global,

@@ -1,11 +1,12 @@
 //! A store's files before they are read: the bytes on which an opening rests are written again, and synced.
 //!
-//! Where a sync fails, Linux takes the pages for written. It shows them as long as they lie in memory, and writes them no
-//! more, whatever later syncs answer. A program that starts then would read what the device may lack. Such pages were
-//! written since the last sync that succeeded, for a disk makes no call after one that failed. Of these an opening rests
-//! on few bytes: the first one of each file, which says whether it is open; the gate that was opened last; and the closed
-//! one behind its commit. What lies before an open gate was synced before the gate was opened. Each of these bytes is
-//! written with the value that it has, so that the next sync brings its page to the device, or the opening fails.
+//! Where a sync fails, Linux takes the pages for written. It shows them as long as they lie in memory, and writes them
+//! no more, whatever later syncs answer. A program that starts then would read what the device may lack. Such pages
+//! were written since the last sync that succeeded, for a disk makes no call after one that failed. Of these an opening
+//! rests on few bytes: the first one of each file, which says whether it is open; the gate that was opened last; and
+//! the closed one behind its commit. What lies before an open gate was synced before the gate was opened. Each of these
+//! bytes is written with the value that it has, so that the next sync brings its page to the device, or the opening
+//! fails.
 ghost use Rattle.std.specs.Prelude.{◌≡◌, OnOk, false};
 
 use disk_edge::{Disk, DiskFail, FileDisk};

@@ -64,7 +64,7 @@ prune-same s _ s' g = absurd g
 
 given-up-same : (s : State) (doubt : Bool) (s' : State) → GivesUp s doubt s' → Same s s'
 given-up-same s true s' g = becomes-same (record s { copy = None; finish = Some g.0 }) s' g.2
-given-up-same s false s' g = becomes-same (record s { copy = None; finish = s'.finish }) s' g.1
+given-up-same s false s' g = becomes-same (record s { copy = None; finish = s'.finish }) s' g.2
 
 compact-same : (s : State) (r : Reply) (s' : State) → CompactGives s r s' → Same s s'
 compact-same s Last s' g = becomes-same s s' g.2

@@ -10,7 +10,7 @@ use Rattle.journal_core.specs.Fronts.{IsOpen}
 use Rattle.journal_core.specs.Looks.{Narrows}
 use Rattle.store_core.specs.Calls.{Calls}
 use Rattle.store_machine.specs.History.{head}
-use Rattle.store_machine.specs.Machine.{Recovers}
+use Rattle.store_machine.specs.Machine.{MayBeLeft}
 use Rattle.store_machine.specs.Openings.{CrashOpens, IsOpened}
 use Rattle.store_machine.specs.declared.machine.Event.{Event}
 use Rattle.store_machine.specs.declared.machine.History.{History}
@@ -107,15 +107,15 @@ pub reopens : CrashOpens
     → count ≡ head t.history → Reopens s a b store count
 reopens law one store s t a b commits count o limit at loaded opens is =
     let same = one o.0 t.history o.1 t.generation a b o.3 opens in
-    let recovers : Recovers s t.history t.generation =
-    subst (Recovers s t.history) same.1 (subst (λ (h : History). Recovers s h o.1) same.0 o.2) in
+    let left : MayBeLeft s t.history t.generation =
+    subst (MayBeLeft s t.history) same.1 (subst (λ (h : History). MayBeLeft s h o.1) same.0 o.2) in
     let opened : IsOpened s.limit t = subst (λ n. IsOpened n t) (sym limit) loaded in
     record {
       after = t;
       stands = at;
-      recovers = recovers;
+      left = left;
       opens = opens;
       version = is;
       opened = opened;
-      run = λ a b e. law s t a b e recovers opened;
+      run = λ a b e. law s t a b e (inl left) opened;
     }

@@ -10,7 +10,7 @@ use Rattle.disk_pair.specs.Changed.{changed}
 use Rattle.disk_pair.specs.Term.{disk_a, disk_b}
 use Rattle.disk_pair.specs.declared.choice.Which.{Which}
 use Rattle.store_machine.specs.History.{head}
-use Rattle.store_machine.specs.Machine.{Recovers}
+use Rattle.store_machine.specs.Machine.{MayBeLeft}
 use Rattle.store_machine.specs.Openings.{IsOpened, reopening}
 use Rattle.store_machine.specs.Runs.{IsRun}
 use Rattle.store_machine.specs.declared.machine.State.{State}
@@ -52,8 +52,8 @@ HasSynced disk bytes = (model.content disk ≡ Some bytes) × Exactly bytes (mod
 pub record Reopens (s : State) (a b : List ℕ) (store : StoreTerm Medium) (count : ℕ) : Type 0 where
   pub after : State
   pub stands : StandsInMemory store after
-  -- the history is one that a crash may leave, and the one that the two disks open to
-  pub recovers : Recovers s after.history after.generation
+  -- the history is one that may be left of the state, and the one that the two disks open to
+  pub left : MayBeLeft s after.history after.generation
   pub opens : OpensTo after.history after.generation a b
   pub version : count ≡ head after.history
   -- nothing is pinned, copied or in doubt, and the limit is as before

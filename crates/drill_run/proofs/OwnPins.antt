@@ -199,10 +199,10 @@ act-named a (FoundData id name reply said is) h = (tt, tt)
 watch-named : {size : ℕ} {watches watches' : List Watched} {act : Act} {calls : Calls} {lines : Lines}
     (a : ℕ → ℕ → Type 0) → DoesWatch size watches act calls lines watches' → NamePins a calls
 watch-named a (WatchedAll name pattern calls version hits new few found) = looked-named a found.lookup
-watch-named a (WatchLost name pattern calls want place need lookup) = looked-named a lookup
+watch-named a (WatchLost name pattern calls want place new few need lookup) = looked-named a lookup
 watch-named a (Current name w slot named) = (tt, ((w.version, inr (refl, refl)), tt))
 watch-named a (Refilled name w calls version hits named other found) = looked-named a found.lookup
-watch-named a (HitsLost name w calls want place named need lookup) = looked-named a lookup
+watch-named a (HitsLost name w calls want place named need lookup anew) = looked-named a lookup
 watch-named a (TakenOut name w named) = tt
 
 pub all-named : {size : ℕ} {standing standing' : Standing} {act : Act} {calls : Calls} {lines : Lines}

@@ -3,7 +3,7 @@ use Rattle.std.proofs.Common.{◌≡◌, ◌∙◌, ◌⊎◌, ap, append_assoc,
 use Rattle.store_machine.specs.History.{grown, rebase}
 use Rattle.store_machine.specs.Kept.{BasesArePast, IsPast}
 use Rattle.store_machine.specs.Laws.{RunsStaySound}
-use Rattle.store_machine.specs.Machine.{CrashGives, Gives, MayFinish, OpenGives, Recovers}
+use Rattle.store_machine.specs.Machine.{CrashGives, Gives, IsWhole, OpenGives, Recovers}
 use Rattle.store_machine.specs.Rebases.{RebasesGrow}
 use Rattle.store_machine.specs.Told.{RunsAdd, acknowledged}
 use Rattle.store_machine.specs.declared.machine.Change.{Change}
@@ -25,9 +25,11 @@ open-keeps s (Opened commits) t g = ap (λ (x : State). x.history) g.8
 open-keeps s _ t g = absurd g
 
 -- a copy that may take the disk's place begins at a version that the history has
-finish-past : (s : State) (v : ℕ) → BasesArePast s → MayFinish s v → IsPast s v
-finish-past s v past (inl is) = subst (λ (o : Option ℕ). MatchOption o (Unit {0}) (IsPast s)) is past.finish
-finish-past s v past (inr is) =
+finish-past : (s : State) (v : ℕ) → BasesArePast s → s.finish ≡ Some v → IsPast s v
+finish-past s v past is = subst (λ (o : Option ℕ). MatchOption o (Unit {0}) (IsPast s)) is past.finish
+
+whole-past : (s : State) (v : ℕ) → BasesArePast s → IsWhole s v → IsPast s v
+whole-past s v past is =
     subst (λ (o : Option Copying). MatchOption o (Unit {0}) (λ copy. IsPast s copy.version)) is past.copy
 
 -- the history from a version on, or this with the commit in doubt
@@ -38,10 +40,11 @@ Leaves s h = (v : ℕ) × IsPast s v
 
 crash-leaves : RebasesGrow → (s : State) → BasesArePast s → (h : History) (generation : ℕ) → Recovers s h generation
     → Leaves s h
-crash-leaves grow s past h generation (inl e) = (s.base, past.base, inl e.0)
-crash-leaves grow s past h generation (inr (inl d)) =
+crash-leaves grow s past h generation (inl (inl e)) = (s.base, past.base, inl e.0)
+crash-leaves grow s past h generation (inl (inr (inl d))) =
     (s.base, past.base, inr (d.0, d.1, d.2 ∙ sym (grow s.history (d.0 ∷ []) s.base past.base.1)))
-crash-leaves grow s past h generation (inr (inr f)) = (f.0, finish-past s f.0 past f.1, inl f.2)
+crash-leaves grow s past h generation (inl (inr (inr f))) = (f.0, finish-past s f.0 past f.1, inl f.2.0)
+crash-leaves grow s past h generation (inr w) = (w.0, whole-past s w.0 past w.1, inl w.2.0)
 
 pub reopenings-keep : RunsAdd → RunsStaySound → RebasesGrow → ReopeningsKeep
 reopenings-keep add stay grow s t u steps crash opening sound run calm (at, crashes, (next, opens, end)) fell woke =

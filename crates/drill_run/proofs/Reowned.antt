@@ -165,7 +165,7 @@ module _ (s t : State) (ps : List Held) (n : ℕ) where
 
   gives-up : (doubt : Bool) → GivesUp s doubt t → GivesUp (with_pins s ps) doubt (with_pins t ps)
   gives-up true g = (g.0, g.1, becomes (record s { copy = None; finish = Some g.0 }) g.2)
-  gives-up false g = (g.0, becomes (record s { copy = None; finish = t.finish }) g.1)
+  gives-up false g = (g.0, g.1, becomes (record s { copy = None; finish = t.finish }) g.2)
 
   compacts : (r : Reply) → CompactGives s r t → CompactGives (with_pins s ps) r (with_pins t ps)
   compacts reply.Last g = (g.0, g.1, becomes s g.2)
@@ -221,7 +221,7 @@ look-pins s id _ t g = absurd g
 
 given-up-pins : (s : State) (doubt : Bool) (t : State) → GivesUp s doubt t → t.pins ≡ s.pins
 given-up-pins s true t g = ap (λ (x : State). x.pins) g.2
-given-up-pins s false t g = ap (λ (x : State). x.pins) g.1
+given-up-pins s false t g = ap (λ (x : State). x.pins) g.2
 
 compact-pins : (s : State) (r : Reply) (t : State) → CompactGives s r t → t.pins ≡ s.pins
 compact-pins s reply.Last t g = ap (λ (x : State). x.pins) g.2

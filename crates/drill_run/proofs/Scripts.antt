@@ -7,6 +7,7 @@ use Rattle.drill_core.specs.Worlds.{HasNoFailures}
 use Rattle.io_edge.specs.Faults.{Rose}
 use Rattle.io_edge.specs.Lines as io
 use Rattle.io_edge.specs.Lines.{Reading, TextLine, done_bytes, lines_left, whole_lines}
+use Rattle.io_edge.proofs.TextLines.{behind-none}
 use Rattle.session_run.specs.Cursors.{Calls}
 use Rattle.session_run.specs.Served.{TakesAll, TakesAtMost, TakesExactly, Writes, WritesForTaken}
 use Rattle.session_run.specs.Turn.{IsFresh, ReadsOn, TakesNone}
@@ -82,7 +83,7 @@ under_way-start size start before put r all fresh none unset = record {
   within = omega (arith, fresh.untaken);
 } where
   left : (input : List ℕ) → io.lines_of input ≡ lines_left r input
-  left input = rw (fresh.none, fresh.short) refl
+  left input = rw (fresh.none, fresh.short) (sym (behind-none input))
 
 fails-after : (t : Tally) (read : Option DrillLine) (calls : Calls) → (tally_after t read calls).fails ≤ t.fails + 1
 fails-after t (Some Empty) calls = omega arith
@@ -383,10 +384,10 @@ drilled-none size start before put = (
 
 -- new lines
 pub fresh : (r : Reading) (limit : ℕ)
-    → r ≡ record { pending = []; long = false; taken = 0; limit = limit; ended = false; text = [] } → IsFresh r
+    → r ≡ record { pending = []; dropped = 0; taken = 0; limit = limit; ended = false; text = [] } → IsFresh r
 fresh r limit e = record {
   none = ap (λ (x : Reading). x.pending) e;
-  short = ap (λ (x : Reading). x.long) e;
+  short = ap (λ (x : Reading). x.dropped) e;
   untaken = ap (λ (x : Reading). x.taken) e;
   unended = ap (λ (x : Reading). x.ended) e;
 }

@@ -16,12 +16,12 @@ use Rattle.drill_run.proofs.Events.{runs-under}
 pub takes_line : (line : Line) (old new : Reading) (before after : Option (List ℕ)) → (line ≡ one.End → ⊥)
     → IsNextLine old new before after (Ok line) → TakesLine old new before after (line_by line new.text)
 takes_line one.Text old new before after n t = t
-takes_line one.Long old new before after n t = t
+takes_line (one.Long size) old new before after n t = t
 takes_line one.End old new before after n t = absurd (n refl)
 
 pub rises_line : (line : Line) (P : Type 0) → (line ≡ one.End → ⊥) → OnLine (Ok line) P → P
 rises_line one.Text P n h = h
-rises_line one.Long P n h = h
+rises_line (one.Long size) P n h = h
 rises_line one.End P n h = absurd (n refl)
 
 pub if_ok : {A E : Type 0} (r : Result A E) (P Q : A → Type 0) → ((a : A) → P a → Q a) → IfOk r P → IfOk r Q

@@ -36,7 +36,7 @@ reopened_text version = codes "reopened " ++ (decimal version ++ 10 ∷ [])
 -- a line that is none of a drill's
 abbrev pub refused_text : TextLine → List ℕ
 refused_text (Whole text) = codes "refused drill" ++ 10 ∷ []
-refused_text TooLong = reply_line (reply.Refused refusals.Long)
+refused_text (TooLong size) = reply_line (reply.Refused refusals.Long)
 
 -- nothing is done, and this is answered
 abbrev pub Says : List ℕ → AllKept → Calls → List ℕ → AllKept → Type 0

@@ -41,4 +41,4 @@ IsLine text None = (line : DrillLine) → ¬ Spells text line
 -- a line that is too long is none
 abbrev pub Reads : TextLine → Option DrillLine → Type 0
 Reads (Whole text) read = IsLine text read
-Reads TooLong read = read ≡ None
+Reads (TooLong size) read = read ≡ None

@@ -110,8 +110,8 @@ Answered old new world line (Err fault) =
 -- the line that was read
 abbrev pub line_by : Line → List ℕ → TextLine
 line_by one.Text text = Whole text
-line_by one.Long text = TooLong
-line_by one.End text = TooLong
+line_by (one.Long size) text = TooLong size
+line_by one.End text = TooLong 0
 
 -- a line was answered, and its reply put
 pub record GoesOn (size : ℕ) (line : TextLine) (old new : WorldTerm) (all all' : AllKept)

@@ -79,7 +79,8 @@ impl Sessions {
         self.out.clear();
         match line {
             Line::Text => self.obey(rt, world, meter, text),
-            Line::Long | Line::End => self.refuse_long(world),
+            Line::Long { .. } => self.refuse_long(world),
+            Line::End => self.refuse_long(world),
         }
     }
 
@@ -108,7 +109,7 @@ impl Sessions {
     fn refuse_long(&mut self, world: World) -> Result<World, AllocError>
         requires ready { AreReady world self.old }
         requires empty { self.old.out.items ≡ [] }
-        ensures { Answered self.old self.new world TooLong result }
+        ensures { (size : ℕ) → Answered self.old self.new world (TooLong size) result }
     {
         self.say(world, b"refused long\n")
     }

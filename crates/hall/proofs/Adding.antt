@@ -112,7 +112,7 @@ adds-one model old new calls free asks p one told call o h n kept may =
       refl,
       tells,
       record {
-        opened = kept.opened;
+        start = kept.start;
         given = λ e. absurd (one-more h y e);
         stands = subst (λ (t : State). Stretches model o.store new.store.value o.state (h ++ y ∷ []) t)
             (sym (after-append h (y ∷ []) o.state)) whole;

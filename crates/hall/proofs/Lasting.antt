@@ -1,5 +1,5 @@
 -- What a pass has seen stays a run.
-use Rattle.std.proofs.Common.{◌≡◌, ◌++◌, ◌∙◌, ap, arith, length, List, refl, subst, sym, ⊎_elim}
+use Rattle.std.proofs.Common.{◌≡◌, ◌++◌, ◌∙◌, ap, arith, Bool, length, List, refl, subst, sym, ⊎_elim}
 use Rattle.disk_edge.specs.Disk.{DiskModel}
 use Rattle.store_disk.specs.OnDisk.{StoreTerm}
 use Rattle.store_machine.proofs.Joins.{calms-join, runs-join}
@@ -15,9 +15,9 @@ use Rattle.hall.specs.Passes.{Begins, IsOf, Merged, Runs, known}
 use Rattle.hall.proofs.Runs.{run-ends}
 
 -- the first pass has seen nothing
-pub runs-first : {D : Type 0} (model : DiskModel D) (store : StoreTerm D) (p : HallPass D) → Begins model store p
-    → Runs p
-runs-first model store p b = record {
+pub runs-first : {D : Type 0} (model : DiskModel D) (store : StoreTerm D) (opened : Bool) (p : HallPass D)
+    → Begins model store opened p → Runs p
+runs-first model store opened p b = record {
   origin = b.origin;
   of = b.of;
   run = subst (λ (l : List Step). IsRun b.origin.state l (after b.origin.state l)) (sym b.seen) refl;

@@ -52,7 +52,7 @@ prune-pins s _ t g = absurd g
 
 given-up-pins : (s : State) (doubt : Bool) (t : State) → GivesUp s doubt t → t.pins ≡ s.pins
 given-up-pins s true t g = ap (λ (x : State). x.pins) g.2
-given-up-pins s false t g = ap (λ (x : State). x.pins) g.1
+given-up-pins s false t g = ap (λ (x : State). x.pins) g.2
 
 compact-pins : (s : State) (r : Reply) (t : State) → CompactGives s r t → t.pins ≡ s.pins
 compact-pins s Last t g = ap (λ (x : State). x.pins) g.2

@@ -19,7 +19,7 @@ use Rattle.hall.proofs.Pins.{Kept, held-before}
 module _ {D : Type 0} where
   -- a pass that has seen no event of its own took no pin
   pub holds-none : (p : HallPass D) → own by (known p).numbers (known p).seen ≡ [] → HoldsNone p
-  holds-none p none origin of opened run calm slot version k =
+  holds-none p none origin of free run calm slot version k =
       let s : State = origin.state in
       let seen : List Step = (known p).seen in
       let same : k.origin ≡ origin = cc (k.of, of) in
@@ -29,7 +29,7 @@ module _ {D : Type 0} where
       (no-calls (known p).numbers seen none)
       (held-before (has (known p).numbers) seen s (after s seen) slot k.owner version run calm k.own held) in
       elim kept [
-        | inl b ↦ (let no = ap (pin_in slot) (sym opened.1.pins) ∙ b.0 in cc no)
+        | inl b ↦ (let no = ap (pin_in slot) (sym free) ∙ b.0 in cc no)
         | inr b ↦ b
       ]
 

@@ -190,7 +190,11 @@ module _ {D : Type 0} (model : DiskModel D) where
         made = made;
         pins = pins-of stay h p q [] a made;
         worn = (λ _. refl, λ _. ap length seen ∙ (taken.full ∙ sym b.limit));
+        last = λ is. absurd (no is);
       }
+    where
+      no : true ≡ false → ⊥
+      no f = cc f
 
   -- a pin of the pass is held when its turn begins
   pub held-at : PinsStay → (p : HallPass D) (n : Pass (Kept D) Step (Origin D)) (v : Kept D) (slot version : ℕ)
@@ -292,6 +296,13 @@ module _ {D : Type 0} (model : DiskModel D) where
               absurd (omega (arith, was, long, parts, turn.counted, turn.room, a.limit)),
           λ is. absurd (no (sym not_worn ∙ is)),
         );
+        last = λ _. record {
+          before = (gate.known n).seen;
+          event = e;
+          seen = ap (λ (k : Seat). k.0.seen) added.sees;
+          own = ap (λ (l : List ℕ). has l (by e)) t.stays.numbers ∙ mine;
+          call = sym told ∙ added.names.told;
+        };
       }
     where
       no : false ≡ true → ⊥

@@ -1,5 +1,5 @@
 -- What one call of a pass tells. For private clauses alone.
-use Rattle.std.specs.Prelude.{◌≡◌, ◌⊎◌, Bool, List, [], ◌∷◌, ℕ}
+use Rattle.std.specs.Prelude.{◌≡◌, ◌⊎◌, ◌++◌, Bool, List, [], ◌∷◌, false, true, ℕ}
 use Rattle.store_core.specs.Calls.{Calls, WornAs}
 use Rattle.store_machine.specs.Searches.{KeepsPin}
 use Rattle.store_machine.specs.declared.machine.Event.{Event}
@@ -7,6 +7,7 @@ use Rattle.store_machine.specs.declared.machine.Event.TheVariants.{Pin}
 use Rattle.store_machine.specs.declared.machine.Reply.{Reply}
 use Rattle.store_machine.specs.declared.machine.Reply.TheVariants.{Pinned}
 use Rattle.store_machine.specs.declared.machine.State.{State}
+use Rattle.store_machine.specs.declared.machine.Step.{Step}
 use Rattle.turn_gate.specs.Numbers.{has}
 use Rattle.hall.specs.declared.hall.HallPass.{HallPass}
 use Rattle.hall.specs.Desks.{IsAt, IsWorn, Stretches}
@@ -33,7 +34,16 @@ module _ {D : Type 0} where
     pub took : (slot version : ℕ) → calls ≡ (Pin, Pinned slot version) ∷ []
         → HoldsPin q slot version × ((other : ℕ) → HoldsPin p slot other → ⊥)
 
+  -- the last event that the pass has seen is one of its own, and this call
+  pub record IsLast (q : HallPass D) (calls : TheCalls) : Type 0 where
+    pub before : List Step
+    pub event : Step
+    pub seen : (known q).seen ≡ before ++ event ∷ []
+    pub own : has (known q).numbers event.owner ≡ true
+    pub call : calls ≡ (event.event, event.reply) ∷ []
+
   pub record IsAnswered (p q : HallPass D) (calls : TheCalls) (worn_answer : Bool) : Type 0 where
     pub made : Made p q calls
     pub pins : HasPins p q calls
     pub worn : WornAs (IsWorn p) (IsWorn q) worn_answer
+    pub last : worn_answer ≡ false → IsLast q calls

@@ -1,5 +1,5 @@
 -- For which histories the store under the gate stands, and what a call on it adds.
-use Rattle.std.specs.Prelude.{◌≡◌, ◌++◌, List, [], ◌∷◌, ℕ}
+use Rattle.std.specs.Prelude.{◌≡◌, ◌++◌, Bool, List, [], ◌∷◌, true, ℕ}
 use Rattle.disk_edge.specs.Disk.{DiskModel}
 use Rattle.store_machine.specs.Machine.{Holds}
 use Rattle.store_machine.specs.Openings.{IsOpened}
@@ -43,12 +43,18 @@ module _ {D : Type 0} where
   abbrev pub Tells : Kept D → Step → Type 0
   Tells k e = told_of k ≡ (e.event, e.reply) ∷ []
 
--- The store has made these steps since it was given, from a state for which it stood, as an opening leaves it: they are
--- a stretch of the store on its disks.
+-- A state at which a history may begin: no pin is held. Where the store is said to have been just opened, the state is
+-- as an opening leaves it.
+pub record IsStart (just_opened : Bool) (s : State) : Type 0 where
+  pub pins : s.pins ≡ []
+  pub opened : just_opened ≡ true → (commits : ℕ) × IsOpened commits s
+
+-- The store has made these steps since it was given, from a state for which it stood and at which no pin was held. They
+-- are a stretch of the store on its disks.
 pub record KeptFor {D : Type 0} (model : DiskModel D) (origin : Origin D) (kept : Kept D) (history : List Step) : Type 0
   where
-    pub opened : (commits : ℕ) × IsOpened commits origin.state
-    pub given : history ≡ [] → kept.store.value ≡ origin.store
+    pub start : IsStart origin.opened origin.state
+    pub given : history ≡ [] → (kept.store.value ≡ origin.store) × (kept.opened.value ≡ origin.opened)
     pub stands : Stretches model origin.store kept.store.value origin.state history (after origin.state history)
 
 -- Whose an event may be: a pin that it names is held by its owner.

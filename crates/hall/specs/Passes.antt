@@ -1,8 +1,7 @@
 -- For callers: passes of a hall, and what its calls tell of them.
-use Rattle.std.specs.Prelude.{◌≡◌, ◌⊎◌, ◌≤◌, ◌^◌, ◌↔◌, [], ◌∷◌, length, true, ℕ}
+use Rattle.std.specs.Prelude.{◌≡◌, ◌⊎◌, ◌≤◌, ◌^◌, ◌↔◌, Bool, [], ◌∷◌, length, true, ℕ}
 use Rattle.disk_edge.specs.Disk.{DiskModel}
 use Rattle.store_machine.specs.Machine.{Holds}
-use Rattle.store_machine.specs.Openings.{IsOpened}
 use Rattle.store_machine.specs.Runs.{IsCalm, IsRun}
 use Rattle.store_machine.specs.declared.machine.Step.{Step}
 use Rattle.store_disk.specs.OnDisk.{StandsFor, StoreTerm}
@@ -14,7 +13,7 @@ use Rattle.hall.specs.declared.hall.Hall.{Hall}
 use Rattle.hall.specs.declared.hall.HallPass.{HallPass}
 use Rattle.hall.specs.declared.kept.Kept.{Kept}
 use Rattle.hall.specs.declared.kept.Origin.{Origin}
-use Rattle.hall.specs.Histories.{after}
+use Rattle.hall.specs.Histories.{IsStart, after}
 
 -- an event of the history is a step of the machine
 abbrev pub by : Step → ℕ
@@ -57,14 +56,15 @@ module _ {D : Type 0} where
     pub within : length (known p).seen ≤ (known p).turns
 
 module _ {D : Type 0} (model : DiskModel D) where
-  -- the first pass: the history begins with the store that was given, at a state for which it stood, as an opening
-  -- leaves it
-  pub record Begins (store : StoreTerm D) (p : HallPass D) : Type 0 where
+  -- the first pass: the history begins with the store that was given, at a state for which it stood and at which no pin
+  -- was held, as an opening leaves it where the store is said to have been just opened
+  pub record Begins (store : StoreTerm D) (opened : Bool) (p : HallPass D) : Type 0 where
     pub origin : Origin D
     pub of : IsFrom origin p
     pub store_is : origin.store ≡ store
+    pub opened_is : origin.opened ≡ opened
     pub stands : StandsFor model store origin.state
-    pub opened : (commits : ℕ) × IsOpened commits origin.state
+    pub start : IsStart opened origin.state
     pub seen : (known p).seen ≡ []
     pub numbers : (known p).numbers ≡ 0 ∷ []
     pub given : (known p).given ≡ 1
@@ -74,7 +74,7 @@ module _ {D : Type 0} (model : DiskModel D) where
   pub record Ends (p : HallPass D) (store : StoreTerm D) : Type 0 where
     pub origin : Origin D
     pub of : IsFrom origin p
-    pub opened : (commits : ℕ) × IsOpened commits origin.state
+    pub start : IsStart origin.opened origin.state
     pub stretch : Stretches model origin.store store origin.state (known p).seen
         (after origin.state (known p).seen)
 
@@ -90,9 +90,9 @@ module _ {D : Type 0} where
       → IsRun origin.state (known q).seen (after origin.state (known q).seen) → IsCalm (known q).seen
       → (slot version : ℕ) → HoldsPin q slot version ↔ (HoldsPin p slot version ⊎ HoldsPin o slot version)
 
-  -- the pass holds no pin, where its hall's history begins as an opening leaves it, and what it has seen is a run
+  -- the pass holds no pin, where none is held as its hall's history begins, and what it has seen is a run
   abbrev pub HoldsNone : HallPass D → Type 0
   HoldsNone p =
-      (origin : Origin D) → IsFrom origin p → (commits : ℕ) × IsOpened commits origin.state
+      (origin : Origin D) → IsFrom origin p → origin.state.pins ≡ []
       → IsRun origin.state (known p).seen (after origin.state (known p).seen) → IsCalm (known p).seen
       → (slot version : ℕ) → HoldsPin p slot version → ⊥

@@ -1,10 +1,11 @@
 //! A hall, and the passes of those who take turns in it.
-ghost use Rattle.std.specs.Prelude.{◌≡◌, IfErr, IfOk, ℕ};
+ghost use Rattle.std.specs.Prelude.{◌≡◌, IfErr, IfOk};
 
 use crate::kept::Kept;
 use crate::laws::laws;
 use disk_edge::Disk;
 use std::alloc::{AllocError, Global};
+use std::snapshot::Snapshot;
 use store_disk::Store;
 use turn_gate::{Gate, Pass};
 
@@ -24,28 +25,29 @@ pub struct HallPass<D: Disk> {
 }
 
 impl<D: Disk + Drop> Hall<D> {
-    ghost use Rattle.store_machine.specs.Openings.{IsOpened};
     ghost use Rattle.store_machine.specs.declared.machine.State.{State};
     ghost use Rattle.store_core.specs.Calls.{SameHeld};
     ghost use Rattle.store_disk.specs.OnDisk.{StandsFor};
     ghost use Rattle.turn_gate.specs.Steps.{giving, given_to};
+    ghost use Rattle.hall.specs.Histories.{IsStart};
     ghost use Rattle.hall.specs.Passes.{Begins, Ends, HasBoth, HoldsNone, HoldsPin, IsOf, IsRoot, IsWhole, Merged, Runs, known};
 
-    /// A hall of a store that was just opened, and its root pass, which is whole and has seen no event. The hall has
-    /// 2^63 turns. Its history begins at one state for which the store stands, as an opening leaves it. An error gives
-    /// the store back.
+    /// A hall of a store of which no pin is held, and its root pass, which is whole and has seen no event. The hall has
+    /// 2^63 turns. Its history begins at one state for which the store stands. Only contracts read `opened`, which says
+    /// whether the store was just opened: that state is then as an opening leaves it. An error gives the store back.
     pub fn start(
         alloc: Global,
         store: Store<D>,
+        opened: Snapshot<bool>,
     ) -> Result<(Hall<D>, HallPass<D>), (AllocError, Store<D>)>
-        requires stands { (s : State) × StandsFor D.model store s × ((commits : ℕ) × IsOpened commits s) }
+        requires stands { (s : State) × StandsFor D.model store s × IsStart opened.value s }
         ensures of { IfOk result (λ r. IsOf r.0 r.1) }
         ensures whole { IfOk result (λ r. IsWhole r.1) }
-        ensures begins { IfOk result (λ r. Begins D.model store r.1) }
+        ensures begins { IfOk result (λ r. Begins D.model store opened.value r.1) }
         ensures runs { IfOk result (λ r. Runs r.1) }
         ensures back { IfErr result (λ e. e.1 ≡ store) }
     {
-        let kept = match Kept::new(alloc, store) {
+        let kept = match Kept::new(alloc, store, opened) {
             Ok(kept) => kept,
             Err(failed) => return Err((AllocError, failed.value)),
         };

@@ -23,10 +23,12 @@ use store_disk::Store;
 use store_machine::{State, Step};
 use turn_gate::Stands;
 
-/// Where a hall's history begins: the store as it was given, and the state for which it stood. No value of it is made.
+/// Where a hall's history begins: the store as it was given, the state for which it stood, and whether it was just
+/// opened. No value of it is made.
 pub struct Origin<D: Disk> {
     pub store: Store<D>,
     pub state: State,
+    pub opened: bool,
 }
 
 /// A call and its answer, for contracts alone.
@@ -67,10 +69,12 @@ pub enum Told {
     },
 }
 
-/// The store, and its last call, which takes no bytes. The store is in a box, so that a turn moves a pointer.
+/// The store, its last call, and whether it was just opened when it was given: the last two take no bytes. The store is
+/// in a box, so that a turn moves a pointer.
 pub struct Kept<D: Disk> {
     pub store: Box<Store<D>>,
     pub told: Snapshot<Told>,
+    pub opened: Snapshot<bool>,
 }
 
 impl<D: Disk> Stands for Kept<D> {
@@ -91,14 +95,20 @@ impl<D: Disk> Stands for Kept<D> {
 // owner, but for a fetch and an unpin, which are of the owner of their pin.
 impl<D: Disk + Drop> Kept<D> {
     // Before any call. An error gives the store back.
-    pub(crate) fn new(alloc: Global, store: Store<D>) -> Result<Kept<D>, AllocFailed<Store<D>>>
+    pub(crate) fn new(
+        alloc: Global,
+        store: Store<D>,
+        opened: Snapshot<bool>,
+    ) -> Result<Kept<D>, AllocFailed<Store<D>>>
         ensures store { IfOk result (λ k. k.store.value ≡ store) }
+        ensures opened { IfOk result (λ k. k.opened ≡ opened) }
         ensures back { IfErr result (λ e. e.value ≡ store) }
     {
         let store = Box::new(alloc, store)?;
         Ok(Kept {
             store,
             told: Snapshot::of(&Told::Nothing),
+            opened,
         })
     }
 
@@ -106,8 +116,13 @@ impl<D: Disk + Drop> Kept<D> {
     pub(crate) fn into_store(self) -> Store<D>
         ensures { result ≡ self.store.value }
     {
-        let Kept { store, told } = self;
+        let Kept {
+            store,
+            told,
+            opened,
+        } = self;
         drop(told);
+        drop(opened);
         Box::into_inner(store)
     }
 

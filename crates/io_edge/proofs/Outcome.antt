@@ -1,5 +1,5 @@
 -- What a call for the next line did, from its steps.
-use Rattle.std.proofs.Common.{◌≡◌, ℕ, ◌<◌, ◌≤◌, ◌⊎◌, Bool, false, List, [], ◌∷◌, ◌++◌, Option, None, Some, Result, Ok, Err, cond, refl, sym, ap, ◌∙◌, subst, inl, inr, arith, append_assoc, length-append}
+use Rattle.std.proofs.Common.{◌≡◌, ℕ, ◌<◌, ◌≤◌, ◌⊎◌, Bool, false, List, [], ◌++◌, Option, None, Some, Result, Ok, Err, refl, sym, ap, ◌∙◌, subst, inl, inr, arith, append_assoc, length-append}
 use Rattle.std.specs.Prelude.{IsTrue, OnErr}
 use Rattle.std.specs.Io.KnownBytes.{IsAtEnd}
 use Rattle.std.proofs.lemmas.Option.{same_Some}
@@ -12,7 +12,7 @@ use Rattle.io_edge.specs.Faults.{Rose}
 use Rattle.io_edge.specs.Source.{Leaves}
 use Rattle.io_edge.specs.declared.lines.TheConstants.{LF}
 use Rattle.io_edge.specs.Cut.{HasNoLf}
-use Rattle.io_edge.specs.Lines.{TooLong, Reading, lines_of, behind_lf, lines_left, HasWholeLine, IsAtLimit, IsFinished, AwaitsBytes}
+use Rattle.io_edge.specs.Lines.{Reading, lines_behind, lines_left, pieces, HasWholeLine, IsAtLimit, IsFinished, AwaitsBytes}
 use Rattle.io_edge.specs.NextLine.{answered, Answers, Counts, Told, OnLine, CanAnswer}
 use Rattle.io_edge.specs.Steps.{IsSound, AnswersHeld, NeedsMore, IsEndOf, Reads}
 
@@ -89,14 +89,13 @@ can_finished r h = inr (inl h.ended)
 
 finished_lines : (new : Reading) (l' : List ℕ) → IsFinished new → l' ≡ [] → lines_left new l' ≡ []
 finished_lines new l' h e =
-    ap (λ b. cond b (TooLong ∷ lines_of (behind_lf (new.pending ++ l'))) (lines_of (new.pending ++ l'))) h.short
-    ∙ ap lines_of (ap (λ p. p ++ l') h.none ∙ e)
+    ap (λ p. lines_behind new.dropped (pieces (p ++ l'))) h.none ∙ ap (λ p. lines_behind new.dropped (pieces p)) e
 
 told_lines : (answer : Result Line LineFault) (old new : Reading) (l l' : List ℕ) → lines_left old l
     ≡ answered answer new.text ++ lines_left new l'
     → (answer ≡ Ok End → (l' ≡ []) × IsFinished new) → Told answer old new l l'
 told_lines (Ok Text) old new l l' e end = e
-told_lines (Ok Long) old new l l' e end = e
+told_lines (Ok (Long size)) old new l l' e end = e
 told_lines (Ok End) old new l l' e end = let none = end refl in (e ∙ finished_lines new l' none.1 none.0, none.0)
 told_lines (Err f) old new l l' e end = sym e
 
@@ -136,7 +135,7 @@ counts_after answer a b c got p held = record {
 
 pub line_rises : (answer : Result Line LineFault) (a b c : ℕ) → a ≤ b → OnLine answer (b < c) → OnLine answer (a < c)
 line_rises (Ok Text) a b c p q = omega arith
-line_rises (Ok Long) a b c p q = omega arith
+line_rises (Ok (Long size)) a b c p q = omega arith
 line_rises (Ok End) a b c p q = tt
 line_rises (Err f) a b c p q = tt
 

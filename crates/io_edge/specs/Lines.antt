@@ -1,11 +1,11 @@
 -- The lines of a text, and how far a text was read. For callers.
-use Rattle.std.specs.Prelude.{◌≡◌, ◌<◌, ◌-◌, ◌⊎◌, ℕ, Bool, true, false, IsTrue, List, [], ◌∷◌, ◌++◌, length, map, nat_lt, ◌==◌, if◌then◌else◌, Contains}
+use Rattle.std.specs.Prelude.{◌≡◌, ◌<◌, ◌+◌, ◌-◌, ◌⊎◌, ℕ, Bool, true, false, IsTrue, List, [], ◌∷◌, ◌++◌, length, map, nat_lt, ◌==◌, if◌then◌else◌, Contains}
 use Rattle.io_edge.specs.declared.lines.TheConstants.{LF, CR, LONGEST_LINE}
 
--- a line as it is answered: its text, or that it is too long
+-- a line as it is answered: its text, or how many bytes it has, where it is too long
 pub data TextLine : Type 0 where
   Whole : (bytes : List ℕ) → TextLine
-  TooLong : TextLine
+  TooLong : (size : ℕ) → TextLine
 
 -- a piece of a text: its bytes up to an LF or the text's end, and whether an LF ended it
 pub record Piece : Type 0 where
@@ -34,7 +34,12 @@ text_of piece = if piece.ended then without_cr piece.bytes else piece.bytes
 
 -- a text as a line, which has at most LONGEST_LINE bytes
 abbrev pub as_line : List ℕ → TextLine
-as_line text = if nat_lt LONGEST_LINE (length text) then TooLong else Whole text
+as_line text = if nat_lt LONGEST_LINE (length text) then TooLong (length text) else Whole text
+
+-- the rest of a text as a line, of which the first bytes were dropped, this many
+abbrev pub rest_as_line : ℕ → List ℕ → TextLine
+rest_as_line dropped text =
+    if nat_lt LONGEST_LINE (dropped + length text) then TooLong (dropped + length text) else Whole text
 
 -- the lines of a whole text
 abbrev pub lines_of : List ℕ → List TextLine
@@ -49,17 +54,18 @@ ended_pieces (piece ∷ rest) = if piece.ended then piece ∷ ended_pieces rest 
 abbrev pub whole_lines : List ℕ → List TextLine
 whole_lines bytes = map (λ piece. as_line (text_of piece)) (ended_pieces (pieces bytes))
 
--- the bytes behind the first LF
-abbrev pub behind_lf : List ℕ → List ℕ
-behind_lf [] = []
-behind_lf (b ∷ bs) = if b == LF then bs else behind_lf bs
+-- the lines of pieces, where the first bytes of the first piece were dropped, this many
+abbrev pub lines_behind : ℕ → List Piece → List TextLine
+lines_behind dropped [] = []
+lines_behind dropped (piece ∷ rest) =
+    rest_as_line dropped (text_of piece) ∷ map (λ piece. as_line (text_of piece)) rest
 
--- How far a text was read: the bytes that were taken, not answered, and kept; whether the front of the line
--- under way was dropped, since the line is too long whatever follows; how many bytes were taken, and how
--- many may be; whether the end was met; the text of the line that the last call answered.
+-- How far a text was read: the bytes that were taken, not answered, and kept; how many bytes were dropped of the front
+-- of the line under way, which is then too long whatever follows; how many bytes were taken, and how many may be;
+-- whether the end was met; the text of the line that the last call answered.
 pub record Reading : Type 0 where
   pub pending : List ℕ
-  pub long : Bool
+  pub dropped : ℕ
   pub taken : ℕ
   pub limit : ℕ
   pub ended : Bool
@@ -67,13 +73,12 @@ pub record Reading : Type 0 where
 
 -- the lines that are still to be answered, where these bytes are left in the source
 abbrev pub lines_left : Reading → List ℕ → List TextLine
-lines_left reading left = if reading.long then TooLong ∷ lines_of (behind_lf (reading.pending ++ left)) else lines_of
-    (reading.pending ++ left)
+lines_left reading left = lines_behind reading.dropped (pieces (reading.pending ++ left))
 
 -- A whole line is left to answer in what was taken: an LF, or the end was met behind bytes or a long line.
 abbrev pub HasWholeLine : Reading → Type 0
 HasWholeLine reading = Contains reading.pending LF
-    ⊎ (IsTrue reading.ended × ((0 < length reading.pending) ⊎ IsTrue reading.long))
+    ⊎ (IsTrue reading.ended × ((0 < length reading.pending) ⊎ (0 < reading.dropped)))
 
 -- the end was not met, and no whole line is left to answer
 pub record AwaitsBytes (reading : Reading) : Type 0 where
@@ -90,7 +95,7 @@ pub record IsAtLimit (reading : Reading) : Type 0 where
 pub record IsFinished (reading : Reading) : Type 0 where
   pub ended : reading.ended ≡ true
   pub none : reading.pending ≡ []
-  pub short : reading.long ≡ false
+  pub short : reading.dropped ≡ 0
 
 -- how many of the bytes that were taken belong to lines that were answered, or were dropped
 abbrev pub done_bytes : Reading → ℕ

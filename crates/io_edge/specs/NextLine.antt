@@ -8,7 +8,7 @@ use Rattle.io_edge.specs.declared.lines.LineFault.{LineFault}
 -- the line that is answered, if one is
 abbrev pub answered : Result Line LineFault → List ℕ → List TextLine
 answered (Ok Text) text = Whole text ∷ []
-answered (Ok Long) text = TooLong ∷ []
+answered (Ok (Long size)) text = TooLong size ∷ []
 answered (Ok End) text = []
 answered (Err f) text = []
 
@@ -27,28 +27,28 @@ pub record Counts (old : Reading) (got : List ℕ) (new : Reading) : Type 0 wher
 -- the same in the words of a source that tells what is left: before the call l, and after it l'
 abbrev pub Told : Result Line LineFault → Reading → Reading → List ℕ → List ℕ → Type 0
 Told (Ok Text) old new l l' = lines_left old l ≡ Whole new.text ∷ lines_left new l'
-Told (Ok Long) old new l l' = lines_left old l ≡ TooLong ∷ lines_left new l'
+Told (Ok (Long size)) old new l l' = lines_left old l ≡ TooLong size ∷ lines_left new l'
 Told (Ok End) old new l l' = (lines_left old l ≡ []) × (l' ≡ [])
 Told (Err f) old new l l' = lines_left new l' ≡ lines_left old l
 
 -- P holds where a line is answered
 abbrev pub OnLine : Result Line LineFault → Type 0 → Type 0
 OnLine (Ok Text) P = P
-OnLine (Ok Long) P = P
+OnLine (Ok (Long size)) P = P
 OnLine (Ok End) P = Unit {0}
 OnLine (Err f) P = Unit {0}
 
 -- P holds where a text is answered
 abbrev pub OnText : Result Line LineFault → Type 0 → Type 0
 OnText (Ok Text) P = P
-OnText (Ok Long) P = Unit {0}
+OnText (Ok (Long size)) P = Unit {0}
 OnText (Ok End) P = Unit {0}
 OnText (Err f) P = Unit {0}
 
 -- P holds where no text is answered
 abbrev pub OnNoText : Result Line LineFault → Type 0 → Type 0
 OnNoText (Ok Text) P = Unit {0}
-OnNoText (Ok Long) P = P
+OnNoText (Ok (Long size)) P = P
 OnNoText (Ok End) P = P
 OnNoText (Err f) P = P
 

@@ -1,5 +1,5 @@
 -- The steps of a call for the next line. For private clauses alone.
-use Rattle.std.specs.Prelude.{◌≡◌, ◌≢◌, ◌≤◌, ◌<◌, ℕ, Bool, false, IsTrue, ◌||◌, nat_lt, if◌then◌else◌, Option, None, Some, Result, Ok, Err, List, [], ◌++◌, length, take, drop}
+use Rattle.std.specs.Prelude.{◌≡◌, ◌≢◌, ◌≤◌, ◌<◌, ◌+◌, ℕ, Bool, false, nat_lt, if◌then◌else◌, Option, None, Some, Result, Ok, Err, List, [], ◌++◌, length, take, drop}
 use Rattle.io_edge.specs.declared.lines.Line.{Line}
 use Rattle.io_edge.specs.declared.lines.Line.TheVariants.{Text, Long, End}
 use Rattle.io_edge.specs.declared.lines.LineFault.{LineFault}
@@ -13,23 +13,24 @@ use Rattle.io_edge.specs.NextLine.{Answers, Counts, OnLine, OnText, OnNoText}
 
 -- what holds of each reading
 pub record IsSound (reading : Reading) : Type 0 where
-  pub pending : length reading.pending ≤ reading.taken
+  pub pending : reading.dropped + length reading.pending ≤ reading.taken
   pub within : reading.taken ≤ reading.limit
-  pub long : IsTrue reading.long → 0 < length reading.pending
+  pub front : 0 < reading.dropped → LONGEST_LINE < reading.dropped
+  pub rest : 0 < reading.dropped → 0 < length reading.pending
 
 -- whether the next line is too long, if its text has so many bytes behind those that were dropped
 abbrev pub is_long : Reading → ℕ → Bool
-is_long reading text_len = reading.long || nat_lt LONGEST_LINE text_len
+is_long reading text_len = nat_lt LONGEST_LINE (reading.dropped + text_len)
 
 -- what the front of the pending bytes is, as a line of such a text
 abbrev pub front_line : Reading → ℕ → Line
-front_line reading text_len = if is_long reading text_len then Long else Text
+front_line reading text_len = if is_long reading text_len then Long (reading.dropped + text_len) else Text
 
 -- the reading behind that line, which takes len bytes
 abbrev pub behind_line : Reading → ℕ → ℕ → Reading
 behind_line reading text_len len = record reading {
   pending = drop len reading.pending;
-  long = false;
+  dropped = 0;
   text = if is_long reading text_len then [] else take text_len reading.pending;
 }
 

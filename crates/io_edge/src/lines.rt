@@ -28,8 +28,8 @@ const CR: u8 = b'\r';
 pub enum Line {
     /// A line, which `Lines::text` shows until the next call.
     Text,
-    /// A line of more than `LONGEST_LINE` bytes, which was taken up to its end.
-    Long,
+    /// A line of so many bytes, more than `LONGEST_LINE`, which was taken up to its end.
+    Long { size: u64 },
     /// The source's end was met, and nothing is left to answer.
     End,
 }
@@ -53,22 +53,24 @@ pub struct Lines {
     buffer: Buffer,
     // The first `scanned` bytes of the buffer hold no LF.
     scanned: usize,
-    long: bool,
+    // How many bytes of the line under way were dropped, which is then too long.
+    dropped: u64,
     taken: u64,
     limit: u64,
     ended: bool,
 }
 
 impl Model for Lines {
-    ghost use Rattle.std.specs.Prelude.{◌≤◌, ◌<◌, IsTrue, length, take};
+    ghost use Rattle.std.specs.Prelude.{◌≤◌, ◌<◌, ◌+◌, length, take};
     ghost use Rattle.io_edge.specs.Lines.{Reading};
     ghost use Rattle.io_edge.specs.Cut.{HasNoLf};
+    ghost use Rattle.io_edge.specs.declared.lines.TheConstants.{LONGEST_LINE};
 
     ghost Value = { Reading };
 
     ghost view = { λ s. record {
       pending = s.buffer.bytes;
-      long = s.long;
+      dropped = s.dropped;
       taken = s.taken;
       limit = s.limit;
       ended = s.ended;
@@ -78,9 +80,10 @@ impl Model for Lines {
     ghost invariant = { λ s. record {
       scanned : s.scanned ≤ length s.buffer.bytes;
       none : HasNoLf (take s.scanned s.buffer.bytes);
-      pending : length s.buffer.bytes ≤ s.taken;
+      pending : s.dropped + length s.buffer.bytes ≤ s.taken;
       limit : s.taken ≤ s.limit;
-      long : IsTrue s.long → 0 < length s.buffer.bytes;
+      front : 0 < s.dropped → LONGEST_LINE < s.dropped;
+      rest : 0 < s.dropped → 0 < length s.buffer.bytes;
     } };
 }
 
@@ -90,7 +93,7 @@ impl Lines {
     pub fn new(alloc: Global, limit: u64) -> Result<Lines, AllocError>
         ensures { IfOk result (λ lines. lines ≡ record {
           pending = [];
-          long = false;
+          dropped = 0;
           taken = 0;
           limit = limit;
           ended = false;
@@ -101,7 +104,7 @@ impl Lines {
         Ok(Lines {
             buffer,
             scanned: 0,
-            long: false,
+            dropped: 0,
             taken: 0,
             limit,
             ended: false,
@@ -183,12 +186,12 @@ impl Lines {
         ensures line { result ≡ front_line self.old text_len }
         ensures after { self.new ≡ behind_line self.old text_len len }
     {
-        let is_long = self.long || text_len > LONGEST_LINE;
-        self.long = false;
+        let size = self.dropped + text_len as u64;
+        self.dropped = 0;
         self.scanned = 0;
-        if is_long {
+        if size > LONGEST_LINE as u64 {
             self.buffer.cut(0, len);
-            return Line::Long;
+            return Line::Long { size };
         }
         self.buffer.cut(text_len, len);
         Line::Text
@@ -244,9 +247,9 @@ impl Lines {
         ensures progress { done_bytes self.old ≤ done_bytes self.new }
     {
         let len = self.buffer.bytes().len();
-        if len > 1 && (self.long || len > LONGEST_LINE + 1) {
+        if len > 1 && (self.dropped > 0 || len > LONGEST_LINE + 1) {
             self.buffer.cut(0, len - 1);
-            self.long = true;
+            self.dropped += len as u64 - 1;
             self.scanned = 0;
         }
     }

@@ -1,5 +1,5 @@
 -- What a lookup did, by its parts: a pin, its pages, and the pin is given back.
-use Rattle.std.proofs.Common.{◌≡◌, ◌≢◌, ◌⊎◌, ◌↔◌, ◌++◌, append-nil, Bool, Err, IfOk, IsErrAnd, IsOkUnless, length, List, [], None, Ok, Option, refl, Result, Some, subst, sym, ℕ}
+use Rattle.std.proofs.Common.{◌≡◌, ◌≢◌, ◌⊎◌, ◌↔◌, ◌++◌, append-nil, Bool, Err, IfOk, inr, IsErrAnd, IsOkUnless, length, List, [], None, Ok, Option, refl, Result, Some, subst, sym, ℕ}
 use Rattle.par_search.specs.Faults.{fault_of}
 use Rattle.par_search.specs.declared.fault.SearchFault.{SearchFault}
 use Rattle.par_search.specs.declared.fault.SearchFault.TheVariants as faults
@@ -11,7 +11,7 @@ use Rattle.store_core.specs.declared.words.CallFault.{CallFault}
 use Rattle.store_core.specs.declared.words.CallFault.TheVariants as call
 use Rattle.store_machine.specs.Searches.{At, End, Place, fetched, records_of}
 use Rattle.store_machine.specs.declared.machine.Found.{Found}
-use Rattle.lookup.specs.Fetches.{Calls, Fetches, HeldBesides, Looks, LooksUnless, Makes, begun_calls, lookup_calls}
+use Rattle.lookup.specs.Fetches.{Calls, FailsBy, Fetches, HeldBesides, IsAnew, Looks, LooksSo, LooksUnless, Makes, begun_calls, lookup_calls}
 use Rattle.lookup.specs.Fetches.{CutShort, Failed, Known, Looked, NoneFree, Unasked, Whole, WornAfter, WornBefore}
 use Rattle.lookup.specs.Walks.{IsPinnedFrom, Saw, Walked, Walks}
 use Rattle.lookup.specs.declared.pages.Seen.{Seen}
@@ -104,6 +104,51 @@ looks-unasked {of = of} {old = old} {size = size} {want = want} Is' r same none 
     let unasked : Looks of old old size want Is' (Err faults.NoMemory) = Unasked none (held-same (of.holds old)) in
     looks-passed Is' faults.NoMemory r same unasked
 
+-- what holds of a failed lookup, and whatever follows from that
+pub fails-map : {S X : Type 0} {of : meaning.Ghosts S} {old new : S} {size : ℕ} {want : List Bool}
+    {Is : ℕ → List Found → X → Type 0} {r : Result X SearchFault} (P Q : ℕ → Calls → Type 0)
+    → ((version : ℕ) (pages : Calls) → P version pages → Q version pages)
+    → (l : Looks of old new size want Is r) → FailsBy P l → FailsBy Q l
+fails-map P Q h (Whole x k made held is) p = tt
+fails-map P Q h (CutShort place k made held) p = h _ _ p
+fails-map P Q h (Unasked made held) p = tt
+fails-map P Q h (NoneFree made held) p = tt
+fails-map P Q h (WornBefore made held worn) p = tt
+fails-map P Q h (WornAfter place k made held worn) p = h _ _ p
+
+-- a lookup that came to its end did not fail
+pub fails-never : {S X : Type 0} {of : meaning.Ghosts S} {old new : S} {size : ℕ} {want : List Bool}
+    {Is : ℕ → List Found → X → Type 0} {x : X} (P : ℕ → Calls → Type 0)
+    → Looks of old new size want Is (Ok x) → LooksSo P of old new size want Is (Ok x)
+fails-never P (Whole x f made held is) = (Whole x f made held is, tt)
+
+-- a fault, whatever was asked
+fault-by : {S X Y : Type 0} {of : meaning.Ghosts S} {old new : S} {size : ℕ} {want : List Bool}
+    {Is : ℕ → List Found → X → Type 0} {fault : SearchFault} (Is' : ℕ → List Found → Y → Type 0)
+    (P : ℕ → Calls → Type 0) (l : Looks of old new size want Is (Err fault)) → FailsBy P l
+    → LooksSo P of old new size want Is' (Err fault)
+fault-by Is' P (CutShort place k made held) p = (CutShort place k made held, p)
+fault-by Is' P (Unasked made held) p = (Unasked made held, tt)
+fault-by Is' P (NoneFree made held) p = (NoneFree made held, tt)
+fault-by Is' P (WornBefore made held worn) p = (WornBefore made held worn, tt)
+fault-by Is' P (WornAfter place k made held worn) p = (WornAfter place k made held worn, p)
+
+-- the result of a `?`
+pub looks-passed-by : {S X Y : Type 0} {of : meaning.Ghosts S} {old new : S} {size : ℕ} {want : List Bool}
+    {Is : ℕ → List Found → X → Type 0} (Is' : ℕ → List Found → Y → Type 0) (P : ℕ → Calls → Type 0)
+    (fault : SearchFault) (r : Result Y SearchFault) → IsErrAnd r (λ e. e ≡ fault)
+    → LooksSo P of old new size want Is (Err fault) → LooksSo P of old new size want Is' r
+looks-passed-by Is' P fault (Ok y) same l = absurd same
+looks-passed-by {of = of} {old = old} {new = new} {size = size} {want = want} Is' P fault (Err e) same l =
+    subst (λ (f : SearchFault). LooksSo P of old new size want Is' (Err f)) (sym same) (fault-by Is' P l.0 l.1)
+
+-- what was found at another version than the one that is known is of no use
+pub short-anew : {S X Y : Type 0} {of : meaning.Ghosts S} {old new : S} {size known : ℕ} {want : List Bool}
+    {Is : ℕ → List Found → X → Type 0} {x : X} (Is' : ℕ → List Found → Y → Type 0)
+    → Looks of old new size want (λ version records y. (version ≢ known) × Is version records y) (Ok x)
+    → LooksSo (IsAnew known) of old new size want Is' (Err faults.NoMemory)
+short-anew Is' (Whole x k made held is) = (CutShort End k made held, inr is.0)
+
 -- what was found is listed, or is of no use
 pub looks-listed : {S X Y : Type 0} {of : meaning.Ghosts S} {old new : S} {size : ℕ} {want : List Bool}
     {Is : ℕ → List Found → X → Type 0} {x : X} → Looks of old new size want Is (Ok x)
@@ -127,18 +172,28 @@ looked-none Is' (Known f none is made held) = Known f none is made held
 
 pub looked-passed : {S X Y : Type 0} {of : meaning.Ghosts S} {old new : S} {size known : ℕ} {want : List Bool}
     {Is : ℕ → List Found → X → Type 0} (Is' : ℕ → List Found → Y → Type 0) (fault : SearchFault)
-    (r : Result (Option Y) SearchFault) → IsErrAnd r (λ e. e ≡ fault) → Looks of old new size want Is (Err fault)
-    → LooksUnless known of old new size want Is' r
+    (r : Result (Option Y) SearchFault) → IsErrAnd r (λ e. e ≡ fault)
+    → LooksSo (IsAnew known) of old new size want Is (Err fault) → LooksUnless known of old new size want Is' r
 looked-passed Is' fault (Ok y) same l = absurd same
-looked-passed Is' fault (Err e) same l = Failed e (same-fault fault e same (looks-fault Is' l))
+looked-passed {of = of} {old = old} {new = new} {size = size} {known = known} {want = want} Is' fault (Err e) same l =
+    let m = fault-by Is' (IsAnew known) l.0 l.1 in
+    subst (λ (f : SearchFault). LooksUnless known of old new size want Is' (Err f)) (sym same) (Failed fault m.0 m.1)
+
+-- and where memory was wanted before any call
+pub looked-unasked : {S Y : Type 0} {of : meaning.Ghosts S} {old : S} {size known : ℕ} {want : List Bool}
+    (Is' : ℕ → List Found → Y → Type 0) (r : Result (Option Y) SearchFault) → IsErrAnd r (λ e. e ≡ faults.NoMemory)
+    → Makes of old old [] → LooksUnless known of old old size want Is' r
+looked-unasked {of = of} {old = old} {size = size} {want = want} Is' r same none =
+    let unasked : Looks of old old size want Is' (Err faults.NoMemory) = Unasked none (held-same (of.holds old)) in
+    looked-passed Is' faults.NoMemory r same (unasked, tt)
 
 pub looked-fault : {S X : Type 0} {of : meaning.Ghosts S} {old new : S} {size known : ℕ} {want : List Bool}
     {Is : ℕ → List Found → X → Type 0} {fault : SearchFault} → LooksUnless known of old new size want Is (Err fault)
-    → Looks of old new size want Is (Err fault)
-looked-fault (Failed fault looks) = looks
+    → LooksSo (IsAnew known) of old new size want Is (Err fault)
+looked-fault (Failed fault looks anew) = (looks, anew)
 
 -- where the fetches came to, whatever they gave
-pub any-walked : {S : Type 0} (of : meaning.Ghosts S) (mid then : S) (slot size : ℕ) (want : List Bool)
+abbrev pub any-walked : {S : Type 0} (of : meaning.Ghosts S) (mid then : S) (slot size : ℕ) (want : List Bool)
     (Gives : List Found → ℕ → Type 0) (r : Result ℕ CallFault)
     → Walks of mid then slot size want Gives r → (place : Place) × Walked of mid then slot size want place
 any-walked of mid then slot size want Gives (Ok n) w = (End, w.0)
@@ -171,6 +226,13 @@ module _ {S X : Type 0} {of : meaning.Ghosts S} (size : ℕ) (want : List Bool) 
   pin_failed old new call.Worn made held needs worn =
       WornBefore made (none_taken (of.holds old) (of.holds new) held) (worn refl)
   pin_failed old new call.NoMemory made held needs worn = absurd needs
+
+  pub pin_failed_by : (P : ℕ → Calls → Type 0) (old new : S) (fault : CallFault) → Makes of old new (pin_calls (Err fault))
+      → ((s v : ℕ) → of.holds new s v ↔ (of.holds old s v ⊎ ⊥)) → NeedsNone (pin_of fault)
+      → (fault ≡ call.Worn → of.worn new) → LooksSo P of old new size want Is (Err (fault_of fault))
+  pin_failed_by P old new call.Worn made held needs worn =
+      (WornBefore made (none_taken (of.holds old) (of.holds new) held) (worn refl), tt)
+  pin_failed_by P old new call.NoMemory made held needs worn = absurd needs
 
   module _ (joins : (a b c : S) (xs ys : Calls) → Makes of a b xs → Makes of b c ys → Makes of a c (xs ++ ys))
       (old mid then new : S) (p : Pin) (made : Makes of old mid (pin_calls (Ok (Some p))))
@@ -213,24 +275,30 @@ module _ {S X : Type 0} {of : meaning.Ghosts S} (size : ℕ) (want : List Bool) 
         → Walks of mid then p.slot size want Gives (Err fault)
         → Makes of then new (unpin_calls p.slot (Ok tt))
         → ((s v : ℕ) → of.holds new s v ↔ (of.holds then s v × ¬ (p.slot ≡ s)))
-        → (of.worn then → ⊥) → Looks of old new size want Is (Err (fault_of fault))
+        → (of.worn then → ⊥)
+        → LooksSo (λ version pages. version ≡ p.version) of old new size want Is (Err (fault_of fault))
     looked_short Gives call.NoMemory w unpin back not_worn =
-        CutShort w.0 (fetches_of w.0 w.1) (whole_made w.1.pages w.1.made unpin) (back_as w.0 w.1 back)
+        (CutShort w.0 (fetches_of w.0 w.1) (whole_made w.1.pages w.1.made unpin) (back_as w.0 w.1 back), refl)
     looked_short Gives call.Worn w unpin back not_worn = absurd (not_worn w.2)
 
     -- the service was worn when the pin was to be given back
     pub looked_worn : (Gives : List Found → ℕ → Type 0) (r : Result ℕ CallFault)
-        → Walks of mid then p.slot size want Gives r → (fault : CallFault)
+        → (w : Walks of mid then p.slot size want Gives r) → (fault : CallFault)
         → Makes of then new (unpin_calls p.slot (Err fault)) → NeedsNone (unpin_of fault)
         → ((s v : ℕ) → of.holds new s v ↔ (of.holds then s v × ¬ ⊥))
-        → (fault ≡ call.Worn → of.worn new) → Looks of old new size want Is (Err (fault_of fault))
+        → (fault ≡ call.Worn → of.worn new)
+        → LooksSo (λ version pages. (version ≡ p.version)
+        × (pages ≡ (any-walked of mid then p.slot size want Gives r w).1.pages)) of old new size want Is
+        (Err (fault_of fault))
     looked_worn Gives r w call.NoMemory unpin needs kept worn = absurd needs
     looked_worn Gives r w call.Worn unpin needs kept worn =
-        let any = any-walked of mid then p.slot size want Gives r w in
-        WornAfter any.0 (fetches_of any.0 any.1) (begun_made any.1.pages any.1.made unpin)
-        (kept_on (of.holds old) (of.holds then) (of.holds new) p.slot p.version
-        (held_on (of.holds old) (of.holds mid) (of.holds then) p.slot p.version held any.1.held) kept)
-        (worn refl)
+        let any = any-walked of mid then p.slot size want Gives r w in (
+          WornAfter any.0 (fetches_of any.0 any.1) (begun_made any.1.pages any.1.made unpin)
+              (kept_on (of.holds old) (of.holds then) (of.holds new) p.slot p.version
+              (held_on (of.holds old) (of.holds mid) (of.holds then) p.slot p.version held any.1.held) kept)
+              (worn refl),
+          (refl, refl),
+        )
 
   -- where nothing is fetched
   module _ (joins : (a b c : S) (xs ys : Calls) → Makes of a b xs → Makes of b c ys → Makes of a c (xs ++ ys))
@@ -256,7 +324,9 @@ module _ {S X : Type 0} {of : meaning.Ghosts S} (size : ℕ) (want : List Bool) 
     -- or the service is worn then
     pub left_worn : (fault : CallFault) → Makes of mid new (unpin_calls p.slot (Err fault))
         → NeedsNone (unpin_of fault) → ((s v : ℕ) → of.holds new s v ↔ (of.holds mid s v × ¬ ⊥))
-        → (fault ≡ call.Worn → of.worn new) → Looks of old new size want Is (Err (fault_of fault))
+        → (fault ≡ call.Worn → of.worn new)
+        → LooksSo (λ version pages. pages ≡ []) of old new size want Is (Err (fault_of fault))
     left_worn fault unpin needs kept worn =
-        looked_worn joins old mid mid new p pinned.made pinned.held pinned.free (λ records n. Unit {0})
-        (Err call.NoMemory) (At 0, no_walk) fault unpin needs kept worn
+        let l = looked_worn joins old mid mid new p pinned.made pinned.held pinned.free (λ records n. Unit {0})
+        (Err call.NoMemory) (At 0, no_walk) fault unpin needs kept worn in
+        (l.0, fails-map _ (λ version pages. pages ≡ []) (λ version pages h. h.1) l.0 l.1)

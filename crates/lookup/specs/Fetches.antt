@@ -52,6 +52,26 @@ pub data Looks {S X : Type 0} (of : meaning.Ghosts S) (old new : S) (size : ℕ)
       (held : HeldBesides (of.holds old) f.slot f.version (of.holds new)) (worn : of.worn new)
       → Looks of old new size want Is (Err faults.Worn)
 
+-- where it failed with a pin, this holds of the version and the fetches
+abbrev pub FailsBy : {S X : Type 0} {of : meaning.Ghosts S} {old new : S} {size : ℕ} {want : List Bool}
+    {Is : ℕ → List Found → X → Type 0} {r : Result X SearchFault} → (ℕ → Calls → Type 0)
+    → Looks of old new size want Is r → Type 0
+FailsBy P (Whole x f made held is) = Unit {0}
+FailsBy P (CutShort place f made held) = P f.version f.pages
+FailsBy P (Unasked made held) = Unit {0}
+FailsBy P (NoneFree made held) = Unit {0}
+FailsBy P (WornBefore made held worn) = Unit {0}
+FailsBy P (WornAfter place f made held worn) = P f.version f.pages
+
+-- a lookup of which this holds where it failed with a pin
+abbrev pub LooksSo : {S X : Type 0} → (ℕ → Calls → Type 0) → meaning.Ghosts S → S → S → ℕ → List Bool
+    → (ℕ → List Found → X → Type 0) → Result X SearchFault → Type 0
+LooksSo P of old new size want Is r = (looks : Looks of old new size want Is r) × FailsBy P looks
+
+-- nothing was fetched, or the version is not the one that is known
+abbrev pub IsAnew : ℕ → ℕ → Calls → Type 0
+IsAnew known version pages = (pages ≡ []) ⊎ (version ≢ known)
+
 -- The same, unless the version that was pinned is the one that is known: then the pin is given back at once
 pub data LooksUnless {S X : Type 0} (known : ℕ) (of : meaning.Ghosts S) (old new : S) (size : ℕ) (want : List Bool)
     (Is : ℕ → List Found → X → Type 0) : Result (Option X) SearchFault → Type 0 where
@@ -62,4 +82,4 @@ pub data LooksUnless {S X : Type 0} (known : ℕ) (of : meaning.Ghosts S) (old n
       (λ version records y. (version ≢ known) × Is version records y) (Ok x))
       → LooksUnless known of old new size want Is (Ok (Some x))
   Failed : (fault : SearchFault) (looks : Looks of old new size want Is (Err fault))
-      → LooksUnless known of old new size want Is (Err fault)
+      (anew : FailsBy (IsAnew known) looks) → LooksUnless known of old new size want Is (Err fault)

@@ -5,7 +5,7 @@ ghost use Rattle.store_core.specs.Records.{found_of, founds};
 ghost use Rattle.store_core.specs.declared.page.TheConstants.{MOST_RECORDS};
 ghost use Rattle.store_machine.specs.Searches.{past};
 ghost use Rattle.store_machine.specs.declared.machine.Found.{Found};
-ghost use Rattle.lookup.specs.Fetches.{Looks, LooksUnless};
+ghost use Rattle.lookup.specs.Fetches.{Looks, LooksSo, LooksUnless};
 ghost use Rattle.lookup.specs.Walks.{IsPinnedFrom, Saw, Walks};
 
 use chem_core::Print;
@@ -109,7 +109,7 @@ fn see_pinned<S: Service, G, V: Visit<G>>(
     requires room { size ≤ page.old.room }
     requires given { V.may_be given.now }
     ensures looks { (before : S) → IsPinnedFrom S.Service before service.old pin
-        → Looks S.Service before service.new size want.now
+        → LooksSo (λ version pages. version ≡ pin.version) S.Service before service.new size want.now
         (λ version records seen. (version ≡ pin.version) × (seen.version ≡ version) × (seen.count ≡ length records)
         × Saw V.has_seen given.now visitor.old visitor.new records) result }
     ensures bounds { NotRaised (S.bounds service.old) (S.bounds service.new) }

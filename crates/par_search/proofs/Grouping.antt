@@ -23,7 +23,7 @@ use Rattle.par_search.specs.declared.worker.TheConstants.{MOST_RECORDS}
 use Rattle.par_search.proofs.Held.{held-more, not_raised-more}
 use Rattle.par_search.proofs.Joining.{founds_in, founds_in-append, joined-few}
 use Rattle.par_search.proofs.Paged.{fetched-append, fetches-append, pages-append, records-append}
-use Rattle.par_search.proofs.Rooming.{kept, page_rooms, parts-fit, rooms-between, same-length}
+use Rattle.par_search.proofs.Rooming.{kept, page_rooms, rooms-between, same-length, shares-fit}
 use Rattle.par_search.proofs.Small.{few-taken, small-append}
 
 -- calls behind pages are answered as they are alone
@@ -203,9 +203,9 @@ can-match {p} {ws} {vs} {hits} old pages start end n can same done le small tota
       total = total;
       some = omega (arith, can.some, workers);
       few = omega (arith, can.few, workers);
-      share = subst (λ k. All (λ (w : WorkerTerm). div_ceil n k ≤ w.share) vs) (sym workers)
-          (kept (λ (w : WorkerTerm). w.share) (div_ceil n (length ws)) ws vs done.workers.1
-          (parts-fit (λ w. w.share) n (length old * MOST_RECORDS) ws ws refl can.some most can.share));
+      share = subst (λ k. All (λ (w : WorkerTerm). 2 * div_ceil n k ≤ w.share) vs) (sym workers)
+          (kept (λ (w : WorkerTerm). w.share) (2 * div_ceil n (length ws)) ws vs done.workers.1
+          (shares-fit n (length old * MOST_RECORDS) ws can.some most can.share));
       hits = omega (arith, found, sum, few, number, can.hits, done.capacity);
       sound = can.sound;
     }

@@ -1,6 +1,7 @@
 -- The hits of shares, one behind the other.
-use Rattle.std.proofs.Common.{◌≡◌, ◌+◌, ◌*◌, ◌++◌, ◌≤◌, ◌∙◌, ap, ap₂, append_assoc, arith, drop, length, List, [], ◌∷◌, refl, subst, suc, sym, take, zero, ℕ}
-use Rattle.std.proofs.Math.Seq.{take-add}
+use Rattle.std.proofs.Common.{◌≡◌, ◌+◌, ◌*◌, ◌++◌, ◌≤◌, ◌∙◌, ap, append_assoc, arith, drop, length, List, [], ◌∷◌, refl, subst, suc, sym, take, zero, ℕ}
+use Rattle.std.proofs.Math.Nat.{mul-le-mul_right}
+use Rattle.std.proofs.Math.Seq.{take-add, take_all}
 use Rattle.std.proofs.lemmas.Grind.{flat_map-append}
 use Rattle.std.proofs.lemmas.List.{drop-drop, length-map, map-append}
 use Rattle.std.proofs.lemmas.Option.{same_Some}
@@ -12,8 +13,9 @@ use Rattle.store_machine.specs.declared.machine.Found.{Found}
 use Rattle.store_core.specs.Records.{PageTerm, Shared, found_of, founds}
 use Rattle.par_search.specs.Flags.{WorkerTerm, piece_of}
 use Rattle.par_search.specs.Shares.{AreFoundFrom, hits_in, records_in}
-use Rattle.par_search.proofs.Cuts.{all-taken, one-more}
+use Rattle.par_search.proofs.Cuts.{one-more}
 use Rattle.par_search.proofs.Matched.{matched-append, matched_few}
+use Rattle.par_search.proofs.Shares.{shares-cover}
 
 pub founds-append : (xs ys : List Shared) → founds (xs ++ ys) ≡ founds xs ++ founds ys
 founds-append xs ys = map-append (λ (r : Shared). found_of (arc_value r)) xs ys
@@ -104,24 +106,24 @@ join-from p size k records (w ∷ ws) h =
     (founds (take (length ws * size) (drop ((k + 1) * size) records))) w.hits (hits_in ws) here behind))
 
 -- all together are the hits of the records
-pub joined : (p : PatternTerm) (records : List Shared) (ws : List WorkerTerm)
-    → AreFoundFrom p (div_ceil (length records) (length ws)) 0 records ws → 1 ≤ length ws
+joined : (p : PatternTerm) (size : ℕ) (records : List Shared) (ws : List WorkerTerm)
+    → AreFoundFrom p size 0 records ws → length records ≤ length ws * size
     → AreMatched p (founds records) (hits_in ws)
-joined p records ws found some =
-    let size = div_ceil (length records) (length ws) in
+joined p size records ws found covers =
     let none : 0 * size ≡ 0 = omega arith in
     subst (λ l. AreMatched p (founds l) (hits_in ws))
-    (ap (λ n. take (length ws * size) (drop n records)) none
-    ∙ all-taken (length ws) (length ws) size records some (omega arith) refl) (join-from p size 0 records ws found)
+    (ap (λ n. take (length ws * size) (drop n records)) none ∙ take_all (length ws * size) records covers)
+    (join-from p size 0 records ws found)
 
--- the same of shares of so many records, one for each worker
+-- shares of so many records, one for each worker, are all that they have where none is less than an equal one
 pub shares-joined : (p : PatternTerm) (n size : ℕ) (records : List Shared) (old new : List WorkerTerm)
-    → n ≡ length records → size ≡ div_ceil n (length old) → length new ≡ length old → 1 ≤ length old
+    → n ≡ length records → div_ceil n (length old) ≤ size → length new ≡ length old → 1 ≤ length old
     → AreFoundFrom p size 0 records new → AreMatched p (founds records) (hits_in new)
-shares-joined p n size records old new total is same some found =
-    joined p records new
-    (subst (λ k. AreFoundFrom p k 0 records new) (is ∙ ap₂ (λ m l. div_ceil m l) total (sym same)) found)
-    (omega (arith, some, same))
+shares-joined p n size records old new total all same some found =
+    let times : div_ceil n (length old) * length old ≤ size * length old = mul-le-mul_right (length old) all in
+    let covers : n ≤ length old * size = omega (arith, shares-cover n (length old) some, times) in
+    joined p size records new found
+    (subst (λ k. length records ≤ k * size) (sym same) (subst (λ m. m ≤ length old * size) total covers))
 
 -- they are no more than the records
 pub joined-few : (p : PatternTerm) (records : List Shared) (hits : List ℕ) → AreMatched p (founds records) hits

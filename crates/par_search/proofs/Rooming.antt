@@ -38,6 +38,13 @@ parts-fit room n most ws vs e some le all =
     subst (λ (l : List WorkerTerm). All (λ (w : WorkerTerm). div_ceil n (length l) ≤ room w) l) (sym e)
     (λ i d less. let grows = share-grows n most (length ws) some le in omega (arith, grows, all i d less))
 
+-- and room for two of them is room for two of those
+pub shares-fit : (n most : ℕ) (ws : List WorkerTerm) → 1 ≤ length ws → n ≤ most
+    → All (λ (w : WorkerTerm). 2 * div_ceil most (length ws) ≤ w.share) ws
+    → All (λ (w : WorkerTerm). 2 * div_ceil n (length ws) ≤ w.share) ws
+shares-fit n most ws some le all i d less =
+    let grows = share-grows n most (length ws) some le in omega (arith, grows, all i d less)
+
 pub kept-room : (old new : Room) → IsRoom old → new.size ≡ old.size → old.page.room ≡ new.page.room
     → page_rooms new.batch.items ≡ page_rooms old.batch.items
     → vec_capacity new.hits ≡ vec_capacity old.hits
@@ -66,11 +73,11 @@ kept-room old new h size page batch hits workers =
             (sym size) (kept (λ (w : WorkerTerm). w.room) (div_ceil old.size (length old.workers.items))
             old.workers.items new.workers.items workers.0 h.workers));
         shares =
-            subst (λ k. All (λ (w : WorkerTerm). div_ceil (length new.batch.items * MOST_RECORDS) k ≤ w.share)
+            subst (λ k. All (λ (w : WorkerTerm). 2 * div_ceil (length new.batch.items * MOST_RECORDS) k ≤ w.share)
             new.workers.items) (sym n)
-            (subst (λ b. All (λ (w : WorkerTerm). div_ceil (b * MOST_RECORDS) (length old.workers.items) ≤ w.share)
+            (subst (λ b. All (λ (w : WorkerTerm). 2 * div_ceil (b * MOST_RECORDS) (length old.workers.items) ≤ w.share)
             new.workers.items) (sym m) (kept (λ (w : WorkerTerm). w.share)
-            (div_ceil (length old.batch.items * MOST_RECORDS) (length old.workers.items))
+            (2 * div_ceil (length old.batch.items * MOST_RECORDS) (length old.workers.items))
             old.workers.items new.workers.items workers.1 h.shares));
       };
     }

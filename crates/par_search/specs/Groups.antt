@@ -23,21 +23,22 @@ pub record AreBoth (first next both : Fetched) : Type 0 where
   pub from : both.from ≡ next.from
   pub fault : both.fault ≡ next.fault
 
--- there is room for the shares of all records of pages, so many, and for their hits behind those that were found
+-- there is room for two equal shares of all records of pages, so many, with each worker, and for their hits behind
+-- those that were found
 pub record CanMatch (pattern : PatternTerm) (pages : List PageTerm) (n : ℕ) (workers : List WorkerTerm)
     (found : List ℕ) (capacity : ℕ) : Type 0 where
   pub total : n ≡ length (records_in pages)
   pub some : 1 ≤ length workers
   pub few : length workers ≤ MOST_WORKERS
-  pub share : All (λ w. div_ceil n (length workers) ≤ w.share) workers
+  pub share : All (λ w. 2 * div_ceil n (length workers) ≤ w.share) workers
   pub hits : length found + n ≤ capacity
   pub sound : IsSoundPattern pattern
 
--- workers have room for the records of so many pages, and there is room for all their hits
+-- each worker has room for two equal shares of the records of so many pages, and there is room for all their hits
 pub record CanSearch (pattern : PatternTerm) (pages : ℕ) (workers : List WorkerTerm) (capacity : ℕ) : Type 0 where
   pub some : 1 ≤ length workers
   pub few : length workers ≤ MOST_WORKERS
-  pub share : All (λ w. div_ceil (pages * MOST_RECORDS) (length workers) ≤ w.share) workers
+  pub share : All (λ w. 2 * div_ceil (pages * MOST_RECORDS) (length workers) ≤ w.share) workers
   pub hits : pages * MOST_RECORDS ≤ capacity
   pub sound : IsSoundPattern pattern
 

@@ -8,7 +8,7 @@ use Rattle.par_search.specs.declared.room.Room.{Room}
 use Rattle.par_search.specs.declared.worker.TheConstants.{MOST_RECORDS}
 
 -- room for pages of its size, alone and in a batch, with 1 to 16 workers that have room for an equal piece of a page
--- and for an equal share of the records of a batch each
+-- and for two equal shares of the records of a batch each
 pub record IsRoom (room : Room) : Type 0 where
   pub some : 1 ≤ room.size
   pub few : room.size ≤ MOST_RECORDS
@@ -20,7 +20,7 @@ pub record IsRoom (room : Room) : Type 0 where
   pub hits : room.size ≤ vec_capacity room.hits
   pub batch_hits : length room.batch.items * MOST_RECORDS ≤ vec_capacity room.hits
   pub workers : All (λ w. div_ceil room.size (length room.workers.items) ≤ w.room) room.workers.items
-  pub shares : All (λ w. div_ceil (length room.batch.items * MOST_RECORDS) (length room.workers.items) ≤ w.share)
+  pub shares : All (λ w. 2 * div_ceil (length room.batch.items * MOST_RECORDS) (length room.workers.items) ≤ w.share)
       room.workers.items
 
 -- as much room as before

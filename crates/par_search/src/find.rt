@@ -1,6 +1,6 @@
 //! The shares of pages that are searched together, each by its worker: records one behind the other, from one page or
 //! from several.
-ghost use Rattle.std.specs.Prelude.{◌≡◌, ◌≤◌, ◌<◌, ◌+◌, ◌++◌, All, length, vec_capacity};
+ghost use Rattle.std.specs.Prelude.{◌≡◌, ◌≤◌, ◌<◌, ◌↔◌, ◌+◌, ◌*◌, ◌++◌, All, IsTrue, length, vec_capacity};
 ghost use Rattle.std.specs.Int.{div_ceil};
 ghost use Rattle.smarts_parse.specs.Pattern.{pattern_of};
 ghost use Rattle.smarts_parse.specs.Sound.{IsSoundPattern};
@@ -9,6 +9,7 @@ ghost use Rattle.store_core.specs.Records.{founds};
 ghost use Rattle.par_search.specs.Flags.{HasSameRoom, HaveSameRoom, WorkerTerm, piece_of};
 ghost use Rattle.par_search.specs.Groups.{CanMatch, HasMatched};
 ghost use Rattle.par_search.specs.Shares.{AreFoundFrom, hits_in, records_in};
+ghost use Rattle.par_search.specs.declared.find.TheConstants.{LEAST_SHARE};
 ghost use Rattle.par_search.specs.declared.pieces.TheConstants.{MOST_WORKERS};
 
 use crate::meter::Meter;
@@ -17,6 +18,20 @@ use smarts_parse::Pattern;
 use std::thread;
 use std::thread::Threads;
 use store_core::Page;
+
+// The fewest records of a share that has a thread of its own. To make a thread takes about as long as to match a hundred
+// records.
+const LEAST_SHARE: u32 = 64;
+
+/// How many of the first shares of this size have threads of their own, if there is a share for each worker: all but
+/// the last, or none if a thread would cost more than it spares.
+pub fn threads_beside(size: u32, workers: usize) -> usize
+    requires { 1 ≤ workers }
+    ensures large { LEAST_SHARE ≤ size → result + 1 ≡ workers }
+    ensures small { size < LEAST_SHARE → result ≡ 0 }
+{
+    if size < LEAST_SHARE { 0 } else { workers - 1 }
+}
 
 /// Searches pages of so many records together, and appends their hits.
 pub fn match_pages<R: Threads + Sync, M: Meter>(
@@ -33,11 +48,12 @@ pub fn match_pages<R: Threads + Sync, M: Meter>(
     ensures { HasMatched (pattern_of pattern.now) pages.now workers.old workers.new
         hits.old.items hits.new.items (vec_capacity hits.old) (vec_capacity hits.new) }
 {
+    let size = total.div_ceil(workers.len() as u32);
     let shares = Shares {
         pages,
         total,
-        size: total.div_ceil(workers.len() as u32),
-        apart: if total > 1 { workers.len() - 1 } else { 0 },
+        size,
+        apart: threads_beside(size, workers.len()),
         pattern,
         meter,
     };
@@ -67,7 +83,8 @@ impl<M: Meter> Shares<'_, M> {
         hits: &mut Vec<u32>,
         other: &mut G,
     ) -> B
-        requires size { self.now.size ≡ div_ceil self.now.total (length workers.old) }
+        requires all { div_ceil self.now.total (length workers.old) ≤ self.now.size }
+        requires few { self.now.size ≤ 2 * div_ceil self.now.total (length workers.old) }
         requires can_match { CanMatch (pattern_of self.now.pattern.now) self.now.pages.now
             self.now.total workers.old hits.old.items (vec_capacity hits.old) }
         requires other { G.pre other.old }
@@ -111,9 +128,10 @@ impl<M: Meter> Shares<'_, M> {
         self.find_beside(rt, number + 1, rest, other)
     }
 
-    // Whether a share is searched in a thread of its own.
+    // Whether a share is searched in a thread of its own: one of the first that has records.
     fn is_apart(&self, number: usize) -> bool
         requires number { number < 16 }
+        ensures { IsTrue result ↔ ((number < self.now.apart) × (number * self.now.size < self.now.total)) }
     {
         number < self.apart && number * (self.size as usize) < self.total as usize
     }

@@ -1,11 +1,12 @@
 //! A batch of pages that is searched by groups: each group is matched while the next one is fetched.
-ghost use Rattle.std.specs.Prelude.{◌≡◌, ◌≤◌, ◌+◌, [], drop, length, take, vec_capacity};
+ghost use Rattle.std.specs.Prelude.{◌≡◌, ◌≤◌, ◌+◌, ◌*◌, [], drop, length, take, vec_capacity};
+ghost use Rattle.std.specs.Int.{div_ceil};
 ghost use Rattle.smarts_parse.specs.Pattern.{pattern_of};
 ghost use Rattle.par_search.specs.Groups.{CanMatch, CanSearch, HasMatched};
 ghost use Rattle.par_search.specs.Shares.{CanFetch, FetchesInto};
 
 use crate::batch::{Fetched, fetch_pages};
-use crate::find::{Shares, match_pages};
+use crate::find::{Shares, match_pages, threads_beside};
 use crate::meter::Meter;
 use crate::worker::Worker;
 use chem_core::Print;
@@ -43,7 +44,8 @@ pub struct Task<'a, R, M> {
 
 impl<R: Threads + Sync, M: Meter> Task<'_, R, M> {
     /// Fetches a page into each place in turn, until no page follows or a fetch fails, and finds the hits of their
-    /// records. Several workers match a group of pages while the next group is fetched.
+    /// records. Several workers match a large group of pages while the next group is fetched. The last worker's thread
+    /// is this one, which fetches too.
     pub fn search<S: Service>(
         &self,
         from: Option<u32>,
@@ -97,7 +99,8 @@ impl<R: Threads + Sync, M: Meter> Task<'_, R, M> {
         fetched
     }
 
-    // Matches a group in other threads while the pages behind it, this many, are fetched in this one.
+    // Matches a group, and fetches the pages behind it, this many. Each worker but the last has a thread of its own,
+    // where the group is large; this thread matches what is left, and then fetches.
     fn search_group<S: Service>(
         &self,
         group: Group,
@@ -124,23 +127,35 @@ impl<R: Threads + Sync, M: Meter> Task<'_, R, M> {
     {
         let (done, behind) = pages.split_at_mut(group.end);
         let (ahead, _) = behind.split_at_mut(next);
+        let size = share_beside(group.tried, workers.len() as u32);
         let shares = Shares {
             pages: between(done, group.start, group.end),
             total: group.tried,
-            size: group.tried.div_ceil(workers.len() as u32),
-            apart: workers.len(),
+            size,
+            apart: threads_beside(size, workers.len()),
             pattern: self.pattern,
             meter: self.meter,
         };
-        let (pin, want, size, from) = (self.pin, self.want, self.size, group.from);
+        let (pin, want, most, from) = (self.pin, self.want, self.size, group.from);
         let mut fetching = || -> Fetched
-            requires can_fetch { CanFetch S.Service service.now pin.now size from ahead.now }
+            requires can_fetch { CanFetch S.Service service.now pin.now most from ahead.now }
             ensures fetched { FetchesInto S.Service service.entry.now service.exit.now
-                pin.entry.now size want.entry.now from
+                pin.entry.now most want.entry.now from
                 ahead.entry.now ahead.exit.now ahead.exit.now result }
-        { fetch_pages(pin, want, size, from, service, ahead) };
+        { fetch_pages(pin, want, most, from, service, ahead) };
         shares.match_beside(self.rt, workers, hits, &mut fetching)
     }
+}
+
+// How many records of a group each worker has, but the last: an eighth more than its equal share. To fetch a record
+// takes about a seventh of the time of matching one, and the last worker's thread fetches as many as all of them match.
+fn share_beside(total: u32, workers: u32) -> u32
+    requires { 1 ≤ workers }
+    ensures all { div_ceil total workers ≤ result }
+    ensures few { result ≤ 2 * div_ceil total workers }
+{
+    let equal = total.div_ceil(workers);
+    equal.saturating_add(equal / 8)
 }
 
 // The pages from one place to another.

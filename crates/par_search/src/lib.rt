@@ -4,7 +4,7 @@
 //! A search takes all its memory before its pin, so that only a fetch can fail later. The records of a page are cut
 //! into pieces, one for each worker. Several pages are searched together by groups: they are fetched one behind the
 //! other, and the workers match a group, a share of its records each and in threads of their own, while the next group
-//! is fetched. That the pages of a pin are together the hits is a law of the machine.
+//! is fetched by the thread of the last of them. That the pages of a pin are together the hits is a law of the machine.
 #![tactic(auto)]
 
 mod batch;

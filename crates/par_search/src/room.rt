@@ -63,7 +63,7 @@ impl Room {
         ensures size { IfOk result (λ room. room.size ≡ size) }
         ensures most { IfOk result (λ room. vec_len room.batch ≡ most) }
     {
-        let share = (most * MOST_RECORDS).div_ceil(workers) as usize;
+        let share = 2 * (most * MOST_RECORDS).div_ceil(workers) as usize;
         Ok(Room {
             size,
             page: Page::reserve(alloc, size)?,

@@ -1,3 +1,5 @@
 pub mod Blocks
+mod Columns
 pub mod Nexts
 pub mod Places
+pub mod Words

@@ -1,5 +1,5 @@
 -- For callers: pairs of an identifier and a version in ascending order, each with its print and a value.
-use Rattle.std.specs.Prelude.{◌≢◌, ◌==◌, ◌&&◌, ◌+◌, ◌*◌, ◌<◌, ◌≤◌, All, AllPairs, Bool, Contains, length, List, [], ◌∷◌, map, None, Option, Some, if◌then◌else◌, nat_lt, not, true, ℕ}
+use Rattle.std.specs.Prelude.{◌≢◌, ◌==◌, ◌&&◌, ◌+◌, ◌*◌, ◌/◌, ◌%◌, ◌<◌, ◌≤◌, All, AllPairs, Bool, Contains, length, List, [], ◌∷◌, map, None, Option, Some, if◌then◌else◌, nat_lt, not, true, ℕ}
 use Rattle.std.specs.List.{flat_map}
 use Rattle.chem_core.specs.Bits.{HasBit}
 use Rattle.screen_index.specs.declared.entry.Screened.{Screened}
@@ -15,6 +15,10 @@ Rises ps = AllPairs (λ p q. rank p.0 p.1 ≤ rank q.0 q.1) ps
 -- a print has each bit of another
 abbrev pub Holds : List Bool → List Bool → Type 0
 Holds print need = (bit : ℕ) → HasBit need bit → HasBit print bit
+
+-- rows of 64 columns note a print in a column: it is in the row of each bit
+abbrev pub Notes : List Bool → List Bool → ℕ → Type 0
+Notes rows print column = (bit : ℕ) → HasBit print bit → HasBit rows (64 * bit + column)
 
 module _ {V : Type 0} where
   abbrev pub rank_of : Screened V → ℕ
@@ -64,6 +68,14 @@ module _ {V : Type 0} where
   -- a print that holds the print of each
   abbrev pub AreCovered : List Bool → List (Screened V) → Type 0
   AreCovered print xs = All (λ x. Holds print x.print) xs
+
+  -- in which column a pair is noted: numbers that follow each other are spread over the columns
+  abbrev pub column_of : Screened V → ℕ
+  column_of x = (x.id * 2654435769 + x.version * 374761393) / 67108864 % 64
+
+  -- rows that note the print of each
+  abbrev pub AreNoted : List Bool → List (Screened V) → Type 0
+  AreNoted rows xs = All (λ x. Notes rows x.print (column_of x)) xs
 
   -- whether the last pair is before a place
   abbrev pub ends_before : ℕ → List (Screened V) → Bool

@@ -1,10 +1,12 @@
-//! A run of pairs in ascending order, with a union of their prints.
-ghost use Rattle.std.specs.Prelude.{◌≡◌, ◌+◌, ◌++◌, ◌<◌, ◌≤◌, [], All, IfOk, IsTrue, false, filter, length, option_copied, vec_capacity};
+//! A run of pairs in ascending order, with a union of their prints, and rows that tell which may hold what is wanted.
+ghost use Rattle.std.specs.Prelude.{◌≡◌, ◌+◌, ◌++◌, ◌<◌, ◌≤◌, [], All, IfOk, IsTrue, false, filter, length, map, option_copied, vec_capacity};
 ghost use Rattle.std.specs.List.{AllWithin};
 ghost use Rattle.screen_index.specs.declared.entry.Screened.{Screened};
 ghost use Rattle.screen_index.specs.Pairs.{Ascend, IsNext, Lacks, Rises, ends_before, is_apart, put_in, rank, rank_of, superseded};
+ghost use Rattle.screen_index.specs.Pairs.{AreNoted, IsWanted, column_of};
 
 use crate::entry::Screened;
+use crate::rows::{Rows, has_column};
 use crate::union::union_of;
 use crate::want::Want;
 use chem_core::Print;
@@ -14,25 +16,34 @@ use std::marker::Model;
 /// For how many pairs a block has room.
 pub const ROOM: usize = 256;
 
+// How many pairs behind an answer are looked at before the rows are asked.
+const NEAR: usize = 32;
+
 /// Contracts see the pairs. The union holds the print of each of them, and maybe bits of others that were there.
 #[derive(Drop)]
 pub struct Block<V> {
     entries: Vec<Screened<V>>,
     union: Print,
+    // of each pair its column
+    columns: Vec<u8>,
+    rows: Rows,
 }
 
 impl<V> Model for Block<V> {
-    ghost use Rattle.std.specs.Prelude.{◌≤◌, List, length};
+    ghost use Rattle.std.specs.Prelude.{◌≡◌, ◌≤◌, List, length, map};
     ghost use Rattle.std.specs.Vec.{vec_capacity};
     ghost use Rattle.screen_index.specs.declared.entry.Screened.{Screened};
-    ghost use Rattle.screen_index.specs.Pairs.{AreCovered};
+    ghost use Rattle.screen_index.specs.Pairs.{AreCovered, AreNoted, column_of};
 
     ghost Value = { List (Screened V) };
 
     ghost view = { λ b. b.entries.items };
 
     ghost invariant = { λ b. (256 ≤ vec_capacity b.entries) × (length b.entries.items ≤ 256)
-        × AreCovered b.union b.entries.items };
+        × AreCovered b.union b.entries.items
+        × (256 ≤ vec_capacity b.columns)
+        × (b.columns.items ≡ map column_of b.entries.items)
+        × AreNoted b.rows b.entries.items };
 }
 
 impl<V: Drop> Block<V> {
@@ -43,6 +54,8 @@ impl<V: Drop> Block<V> {
         Ok(Block {
             entries: Vec::with_capacity(alloc, ROOM)?,
             union: Print::empty(),
+            columns: Vec::with_capacity(alloc, ROOM)?,
+            rows: Rows::new(alloc)?,
         })
     }
 
@@ -111,7 +124,12 @@ impl<V: Drop> Block<V> {
     {
         let place = self.count_before((entry.id, entry.version));
         self.union.unite(&entry.print);
+        let column = entry.column();
+        self.rows.note(&entry.print, column);
         let Ok(()) = self.entries.insert(place, entry) else {
+            unreachable!()
+        };
+        let Ok(()) = self.columns.insert(place, column) else {
             unreachable!()
         };
     }
@@ -153,6 +171,7 @@ impl<V: Drop> Block<V> {
         ensures { self.new ≡ filter (is_apart places.now) self.old }
     {
         drop_places(&mut self.entries, places);
+        list_columns(self.entries.as_slice(), &mut self.columns);
     }
 
     /// How many of the first of some places the last pair is not before.
@@ -170,6 +189,8 @@ impl<V: Drop> Block<V> {
 
     /// The least pair from a place on whose print holds what is wanted. Where nothing is wanted no print is read. The hint
     /// is the index at which the pairs from the place on may begin, and then the one behind the answer.
+    ///
+    /// Behind an answer a few pairs are looked at by themselves: where many hold what is wanted, one of them is the next.
     pub fn next(&self, want: &Want<'_>, from: (u32, u32), hint: &mut usize) -> Option<&Screened<V>>
         requires { Ascend 0 self.now }
         ensures { IsNext want.now (rank from.0 from.1) self.now (option_copied result) }
@@ -179,11 +200,41 @@ impl<V: Drop> Block<V> {
         if start == 0 && !want.is_met_by(&self.union) {
             return None;
         }
-        for place in start..self.entries.len() {
+        let near = near_end(start, self.entries.len());
+        for place in start..near {
             let entry = &self.entries[place];
             if want.is_met_by(&entry.print) {
                 *hint = place + 1;
                 return Some(entry);
+            }
+        }
+        self.next_noted(want, from, near, hint)
+    }
+
+    // The same by the rows, where no pair before an index is wanted, and each behind it is from the place on.
+    fn next_noted(
+        &self,
+        want: &Want<'_>,
+        from: (u32, u32),
+        near: usize,
+        hint: &mut usize,
+    ) -> Option<&Screened<V>>
+        requires ascending { Ascend 0 self.now }
+        requires none { AllWithin (λ x. ¬ IsWanted want.now (rank from.0 from.1) x) self.now 0 near }
+        requires behind { AllWithin (λ x. rank from.0 from.1 ≤ rank_of x) self.now near (length self.now) }
+        ensures { IsNext want.now (rank from.0 from.1) self.now (option_copied result) }
+    {
+        let columns = self.rows.columns_of(want.print());
+        if columns == 0 {
+            return None;
+        }
+        for place in near..self.entries.len() {
+            if has_column(columns, self.columns[place]) {
+                let entry = &self.entries[place];
+                if want.is_met_by(&entry.print) {
+                    *hint = place + 1;
+                    return Some(entry);
+                }
             }
         }
         None
@@ -200,6 +251,10 @@ impl<V: Drop> Block<V> {
         move_tail(&mut self.entries, index, &mut upper.entries);
         self.union = union_of(self.entries.as_slice());
         upper.union = union_of(upper.entries.as_slice());
+        list_columns(self.entries.as_slice(), &mut self.columns);
+        list_columns(upper.entries.as_slice(), &mut upper.columns);
+        note_left(self.entries.as_slice(), &mut self.rows);
+        note_all(upper.entries.as_slice(), &mut upper.rows);
     }
 
     /// Moves all pairs of the next block to the end of this one.
@@ -209,9 +264,45 @@ impl<V: Drop> Block<V> {
         ensures empty { next.new ≡ [] }
     {
         self.union.unite(&next.union);
+        self.rows.unite(&next.rows);
         let Ok(()) = self.entries.append(&mut next.entries) else {
             unreachable!()
         };
+        list_columns(self.entries.as_slice(), &mut self.columns);
+        next.columns.clear();
+    }
+}
+
+// Lists the columns of pairs.
+fn list_columns<V>(entries: &[Screened<V>], columns: &mut Vec<u8>)
+    requires { length entries.now ≤ vec_capacity columns.old }
+    ensures columns { columns.new.items ≡ map column_of entries.now }
+    ensures capacity { vec_capacity columns.new ≡ vec_capacity columns.old }
+{
+    columns.clear();
+    for entry in entries {
+        columns.push_reserved(entry.column());
+    }
+}
+
+// Notes pairs in rows that note them and others, and most of the others no more. Where a block loses its last pair alone,
+// as for each new one behind a full block, the rows stay as they are.
+fn note_left<V>(entries: &[Screened<V>], rows: &mut Rows)
+    requires { AreNoted rows.old entries.now }
+    ensures { AreNoted rows.new entries.now }
+{
+    if entries.len() < ROOM - 1 {
+        note_all(entries, rows);
+    }
+}
+
+// Notes pairs, and no others, in rows.
+fn note_all<V>(entries: &[Screened<V>], rows: &mut Rows)
+    ensures { AreNoted rows.new entries.now }
+{
+    rows.clear();
+    for entry in entries {
+        rows.note(&entry.print, entry.column());
     }
 }
 
@@ -231,6 +322,18 @@ fn move_tail<V>(entries: &mut Vec<Screened<V>>, index: usize, upper: &mut Vec<Sc
         }
     }
     upper.as_mut_slice().reverse();
+}
+
+// Up to which index pairs are looked at by themselves: none where a search enters the block.
+fn near_end(start: usize, len: usize) -> usize
+    ensures within { start ≤ len → (start ≤ result) × (result ≤ len) }
+    ensures most { result ≤ start + len }
+{
+    if start == 0 || len <= start {
+        start
+    } else {
+        start + NEAR.min(len - start)
+    }
 }
 
 // At which index a full block is split for a pair that has `before` of its `len` pairs before it.

@@ -1,6 +1,6 @@
 //! A pair of an identifier and a version, with its print and a value.
-ghost use Rattle.std.specs.Prelude.{◌≡◌, nat_lt};
-ghost use Rattle.screen_index.specs.Pairs.{Rises, is_apart, rank, rank_of};
+ghost use Rattle.std.specs.Prelude.{◌≡◌, ◌+◌, ◌*◌, ◌/◌, ◌%◌, nat_lt};
+ghost use Rattle.screen_index.specs.Pairs.{Rises, column_of, is_apart, rank, rank_of};
 
 use chem_core::Print;
 
@@ -23,6 +23,13 @@ impl<V> Screened<V> {
         let (own, version) = (self.id, self.version);
         let (id, other) = place;
         own < id || own == id && version < other
+    }
+
+    /// In which column of rows it is noted. Identifiers and versions that follow each other are spread over the columns.
+    pub fn column(&self) -> u8
+        ensures { result ≡ column_of self.now }
+    {
+        column_at(self.id, self.version)
     }
 
     /// Whether it stands behind a place.
@@ -48,4 +55,12 @@ fn is_before(place: (u32, u32), other: (u32, u32)) -> bool
     ensures { result ≡ nat_lt (rank place.0 place.1) (rank other.0 other.1) }
 {
     place.0 < other.0 || place.0 == other.0 && place.1 < other.1
+}
+
+// In which column of rows the pair of an identifier and a version is noted.
+fn column_at(id: u32, version: u32) -> u8
+    ensures { result ≡ (id * 2654435769 + version * 374761393) / 67108864 % 64 }
+{
+    let spread = u64::from(id) * 2_654_435_769 + u64::from(version) * 374_761_393;
+    (spread / 67_108_864 % 64) as u8
 }

@@ -3,15 +3,17 @@
 //!
 //! A pair knows before which version it is its identifier's latest, as far as it was noted.
 //!
-//! The pairs stand in ascending order in blocks of at most 256, each with a union of its prints. A block whose union
-//! lacks a bit is passed over; to put a pair in, or to take one out, moves no more than one block. Who goes on behind
-//! the last answer brings a hint, which spares the search for the block and for the place in it.
+//! The pairs stand in ascending order in blocks of at most 256, each with a union of its prints and with rows: of each
+//! bit, which of 64 columns have it. A block whose union lacks a bit that is wanted, or whose rows for the wanted bits
+//! have no column in common, is passed over. To put a pair in, or to take one out, moves no more than one block. Who
+//! goes on behind the last answer brings a hint, which spares the search for the block and for the place in it.
 #![tactic(auto)]
 
 mod block;
 mod entry;
 mod hint;
 mod index;
+mod rows;
 mod union;
 mod want;
 

@@ -34,6 +34,13 @@ impl<'a> Want<'a> {
         }
     }
 
+    // The print whose bits are wanted.
+    pub(crate) fn print(&self) -> &Print
+        ensures { result.now ≡ self.now }
+    {
+        self.print
+    }
+
     // Whether a print has each of them. Where nothing is wanted it is not read.
     #[inline(always)]
     pub(crate) fn is_met_by(&self, print: &Print) -> bool

@@ -1,12 +1,12 @@
 -- A commit of a run is one of its history's, and hits of a version, brought over its commit, are the hits of the next one.
-use Rattle.std.proofs.Common.{◌≡◌, ◌↔◌, ◌++◌, ◌∙◌, ap, ap₂, append_assoc, arith, Bool, List, [], ◌∷◌, refl, Some, subst, ℕ}
+use Rattle.std.proofs.Common.{◌≡◌, ◌↔◌, ◌<◌, ◌++◌, ◌∙◌, ap, ap₂, append_assoc, arith, Bool, List, [], ◌∷◌, refl, Some, subst, ℕ}
 use Rattle.smarts_parse.specs.Pattern.{PatternTerm}
 use Rattle.store_machine.specs.Answers.{AreHits}
 use Rattle.store_machine.specs.History.{after_change, grown, snapshot}
-use Rattle.store_machine.specs.Laws.{RunsGrow}
+use Rattle.store_machine.specs.Laws.{IsSound, RunsGrow}
 use Rattle.store_machine.specs.Machine.{Gives}
 use Rattle.store_machine.specs.Runs.{IsCalm, IsRun, calls_of}
-use Rattle.store_machine.specs.Told.{RunsAdd, acknowledged, made}
+use Rattle.store_machine.specs.Told.{PinsAreNew, RunsAdd, acknowledged, made}
 use Rattle.store_machine.specs.declared.machine.Change.{Change}
 use Rattle.store_machine.specs.declared.machine.Change.TheVariants.{Register, Revise, Withdraw}
 use Rattle.store_machine.specs.declared.machine.Event.{Event}
@@ -56,3 +56,19 @@ commit_of add grow own s t steps before later c v run calm e =
       commits = ap (λ (g : History). g.commits) whole ∙ append_assoc h.commits (c ∷ []) more.0;
       version_is = omega (arith, gives.1.1, ap (λ (g : History). g.version) whole);
     }
+
+-- a commit behind a pin is of a later version
+pub commit_behind : PinsAreNew → (own : ℕ → Bool) (s t : State) (steps : List Step) (before pages later : Calls)
+    (slot version : ℕ) (c : Change) (v : ℕ) → IsSound s → IsRun s steps t → IsCalm steps
+    → calls_of own steps
+    ≡ (before ++ (events.Pin, replies.Pinned slot version) ∷ pages) ++ (events.Commit c, replies.Committed v) ∷ later
+    → version < v
+commit_behind pins own s t steps before pages later slot version c v sound run calm e =
+    let first : Calls = before ++ (events.Pin, replies.Pinned slot version) ∷ pages in
+    let k = called own s t steps first (events.Commit c, replies.Committed v) later run calm e in
+    let x : Step = k.step in
+    let gives : Gives x.before x.owner (events.Commit c) (replies.Committed v) x.after =
+    subst (λ (e : Event). Gives x.before x.owner e (replies.Committed v) x.after) k.event
+    (subst (λ (r : Reply). Gives x.before x.owner x.event r x.after) k.reply k.is) in
+    let pinned = pins s x.before k.front own slot version before pages sound k.to k.calm_to k.first_calls in
+    omega (arith, gives.1.1, pinned.0)

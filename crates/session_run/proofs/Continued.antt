@@ -74,7 +74,7 @@ lines_ended old new before after got took is end = λ l l' other p q split h res
     let none : lines_left new rest ≡ [] = none_left rest (met end.ended) in
     (lines_read [] old new before after got took is l l' other p q split h rest met ∙ none, none) where
       none_left : (rest : List ℕ) → rest ≡ [] → lines_left new rest ≡ []
-      none_left rest e = rw (e, end.none, end.short) refl
+      none_left rest e = rw (e, end.none) refl
 
 abbrev ended : Result Line LineFault
 ended = Ok End
@@ -84,8 +84,8 @@ pub is_next : (r : Result Line LineFault) (old new : Reading) (before after : Op
     → IsNextLine old new before after r
 is_next (Ok Text) old new before after got took is end awaits =
     lines_read (Whole new.text ∷ []) old new before after got took is
-is_next (Ok Long) old new before after got took is end awaits =
-    lines_read (TooLong ∷ []) old new before after got took is
+is_next (Ok (Long size)) old new before after got took is end awaits =
+    lines_read (TooLong size ∷ []) old new before after got took is
 is_next (Ok End) old new before after got took is end awaits = lines_ended old new before after got took is (end refl)
 is_next (Err fault) old new before after got took is end awaits =
     (lines_read [] old new before after got took is, awaits)

@@ -124,19 +124,42 @@ refused_or_accepted id v e = cc
 fault_or_accepted : (v : ℕ) → line.MemoryFault ≡ line.Accepted v → ⊥
 fault_or_accepted v e = cc
 
-pub accepted_found : {size : ℕ} {change : Change} {m : Molecule} {print : List Bool} {calls : Calls} {lines : Lines}
+-- a commit that is accepted was made
+pub made_commit : (change : Change) (reply : Reply) (said : line.Reply) (v : ℕ) → IsLineOf (events.Commit change) reply said
+    → said ≡ line.Accepted v → reply ≡ replies.Committed v
+made_commit change (replies.Committed version) said v e f = let same : version ≡ v = cc in ap replies.Committed same
+made_commit change replies.Known said v e f = cc
+made_commit change replies.Absent said v e f = cc
+made_commit change replies.Withdrawn said v e f = cc
+made_commit change replies.Full said v e f = cc
+made_commit change (replies.DiskFault doubt) said v e f = cc
+made_commit change replies.NoMemory said v e f = cc
+made_commit change _ said v e f = absurd e
+
+-- A lookup that found none, and the commit of a version behind it
+pub record NewMade (size : ℕ) (m : Molecule) (print : List Bool) (calls : Calls) (v : ℕ) : Type 0 where
+  pub found : NewFound size m print calls []
+  pub change : Change
+  pub last : found.rest ≡ (events.Commit change, replies.Committed v) ∷ []
+
+pub accepted_made : {size : ℕ} {change : Change} {m : Molecule} {print : List Bool} {calls : Calls} {lines : Lines}
     (v : ℕ) → RegistersNew size change m print calls lines → Contains lines (line.Accepted v)
-    → NewFound size m print calls []
-accepted_found v (NotNew calls list id more found first) k = absurd (refused_or_accepted id v (one_in _ _ k))
-accepted_found {change = change} v (IsNew calls list reply said found none is) k = record {
-  list = list;
-  first = calls;
-  rest = (events.Commit change, reply) ∷ [];
-  made = refl;
-  found = found;
-  listed = sym none;
+    → NewMade size m print calls v
+accepted_made v (NotNew calls list id more found first) k = absurd (refused_or_accepted id v (one_in _ _ k))
+accepted_made {change = change} v (IsNew calls list reply said found none is) k = record {
+  found = record {
+    list = list;
+    first = calls;
+    rest = (events.Commit change, reply) ∷ [];
+    made = refl;
+    found = found;
+    listed = sym none;
+  };
+  change = change;
+  last = ap (λ (r : Reply). (events.Commit change, r) ∷ [])
+      (made_commit change reply said v is (one_in said (line.Accepted v) k));
 }
-accepted_found v (NewLost calls place lookup) k = absurd (fault_or_accepted v (one_in _ _ k))
+accepted_made v (NewLost calls place lookup) k = absurd (fault_or_accepted v (one_in _ _ k))
 
 same_id : (a b : ℕ) → line.Refused (refusals.Same a) ≡ line.Refused (refusals.Same b) → a ≡ b
 same_id a b e = cc

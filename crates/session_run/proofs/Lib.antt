@@ -40,4 +40,5 @@ pub mod Watched
 pub mod Viewed
 pub mod Brought
 pub mod Rights
+pub mod Accepted
 pub mod WatchTruth

@@ -4,7 +4,7 @@ use Rattle.std.proofs.lemmas.Option.{get_or_from_slice_get, slice_get-get_or, sl
 use Rattle.chem_core.specs.Molecule.{Molecule}
 use Rattle.lookup.specs.Asked.{IsEmptyPrint}
 use Rattle.lookup.specs.Fetches as fetches
-use Rattle.lookup.specs.Fetches.{CutShort, Fetches, HeldBesides, Looks, NoneFree, Unasked, Whole, WornAfter, WornBefore, begun_calls, lookup_calls}
+use Rattle.lookup.specs.Fetches.{CutShort, FailsBy, Fetches, HeldBesides, Looks, NoneFree, Unasked, Whole, WornAfter, WornBefore, begun_calls, lookup_calls}
 use Rattle.lookup.specs.declared.hits.HitList.{HitList}
 use Rattle.lookup.specs.declared.similar.SimilarList.{SimilarList}
 use Rattle.mol_finish.specs.Structure.{HasMolecule, IsAnswer}
@@ -111,9 +111,19 @@ kept_on a b size want place f held =
     (fetches_leave f.slot size want _ place f.pages f.are) held in
     record { now = m.now; apart = (f.free, m.apart) }
 
-pub looks_up : {held : ℕ → ℕ → Type 0} {size : ℕ} {want : List Bool} {place : Place} (f : Fetches held size want place)
+abbrev pub looks_up : {held : ℕ → ℕ → Type 0} {size : ℕ} {want : List Bool} {place : Place} (f : Fetches held size want place)
     → LooksUp size want place (lookup_calls f.slot f.version f.pages)
 looks_up f = record { slot = f.slot; version = f.version; pages = f.pages; made = refl; fetches = f.are }
+
+-- a lookup that failed
+fails_any : {S X : Type 0} {of : meaning.Ghosts S} {old new : S} {size : ℕ} {want : List Bool}
+    {Is : ℕ → List Found → X → Type 0} {fault : SearchFault} (l : Looks of old new size want Is (Err fault))
+    → FailsBy (λ version pages. Unit {0}) l
+fails_any (CutShort place f made held) = tt
+fails_any (Unasked made held) = tt
+fails_any (NoneFree made held) = tt
+fails_any (WornBefore made held worn) = tt
+fails_any (WornAfter place f made held worn) = tt
 
 module _ {S : Type 0} {of : meaning.Ghosts S} {old new : S} {size : ℕ} {want : List Bool} where
   -- as a session counts them
@@ -142,26 +152,28 @@ module _ {S : Type 0} {of : meaning.Ghosts S} {old new : S} {size : ℕ} {want :
   module _ {X Y : Type 0} {Is : ℕ → List Found → X → Type 0} {As : Calls → Lines → Y → Type 0} {y : Y}
       {out out' : List ℕ} (pin : As ((events.Pin, replies.NoPin) ∷ []) (line.Refused refusals.Pins ∷ []) y)
       (lacks : As [] (line.MemoryFault ∷ []) y)
-      (lost : (place : Place) (calls : Calls) → LooksUp size want place calls → As calls (line.MemoryFault ∷ []) y) where
-    pub looked_in_vain : (fault : SearchFault) (given : Result written.Reply Stop) (result : Result (Unit {0}) Stop)
-        → Looks of old new size want Is (Err fault) → NotRaised (of.bounds old) (of.bounds new)
+      (P : ℕ → Calls → Type 0)
+      (lost : (place : Place) (calls : Calls) (l : LooksUp size want place calls) → P l.version l.pages
+      → As calls (line.MemoryFault ∷ []) y) where
+    pub looked_so : (fault : SearchFault) (given : Result written.Reply Stop) (result : Result (Unit {0}) Stop)
+        → (l : Looks of old new size want Is (Err fault)) → FailsBy P l → NotRaised (of.bounds old) (of.bounds new)
         → IsFaultLine fault given → Writes given out out' result → AnsweredBy of old new As out out' y result
-    looked_in_vain _ given result (CutShort place f made held) bounds is w =
+    looked_so _ given result (CutShort place f made held) p bounds is w =
         said (lookup_calls f.slot f.version f.pages) line.MemoryFault result (looked_uses place f made held bounds)
-        (lost place _ (looks_up f))
+        (lost place _ (looks_up f) p)
         (subst (λ (g : Result written.Reply Stop). Writes g out out' result) is w)
-    looked_in_vain _ given result (Unasked made held) bounds is w =
+    looked_so _ given result (Unasked made held) p bounds is w =
         said [] line.MemoryFault result (uses-kept [] made.made tt held bounds) lacks
         (subst (λ (g : Result written.Reply Stop). Writes g out out' result) is w)
-    looked_in_vain _ given result (NoneFree made held) bounds is w =
+    looked_so _ given result (NoneFree made held) p bounds is w =
         said ((events.Pin, replies.NoPin) ∷ []) (line.Refused refusals.Pins) result
         (uses-kept ((events.Pin, replies.NoPin) ∷ []) made.made (refl, tt) held bounds)
         pin
         (subst (λ (g : Result written.Reply Stop). Writes g out out' result) is w)
-    looked_in_vain _ given result (WornBefore made held worn) bounds is w =
+    looked_so _ given result (WornBefore made held worn) p bounds is w =
         broken [] (line.MemoryFault ∷ []) y result (uses-kept [] made.made tt held bounds) worn lacks
         (subst (λ (g : Result written.Reply Stop). Writes g out out' result) is w)
-    looked_in_vain _ given result (WornAfter place f made held worn) bounds is w =
+    looked_so _ given result (WornAfter place f made held worn) p bounds is w =
         let e : result ≡ Err stops.Worn = subst (λ (g : Result written.Reply Stop). Writes g out out' result) is w in
         subst (λ (r : Result (Unit {0}) Stop). AnsweredBy of old new As out out' y r) (sym e) (Broken (record {
           calls = begun_calls f.slot f.version f.pages;
@@ -174,9 +186,21 @@ module _ {S : Type 0} {of : meaning.Ghosts S} {old new : S} {size : ℕ} {want :
             bounds = bounds;
           };
           begins = ((events.Unpin f.slot, replies.Unpinned) ∷ [], refl);
-          is = lost place _ (looks_up f);
+          is = lost place _ (looks_up f) p;
           worn = worn;
         }))
+
+  -- the same, whatever was fetched
+  module _ {X Y : Type 0} {Is : ℕ → List Found → X → Type 0} {As : Calls → Lines → Y → Type 0} {y : Y}
+      {out out' : List ℕ} (pin : As ((events.Pin, replies.NoPin) ∷ []) (line.Refused refusals.Pins ∷ []) y)
+      (lacks : As [] (line.MemoryFault ∷ []) y)
+      (lost : (place : Place) (calls : Calls) → LooksUp size want place calls → As calls (line.MemoryFault ∷ []) y) where
+    pub looked_in_vain : (fault : SearchFault) (given : Result written.Reply Stop) (result : Result (Unit {0}) Stop)
+        → Looks of old new size want Is (Err fault) → NotRaised (of.bounds old) (of.bounds new)
+        → IsFaultLine fault given → Writes given out out' result → AnsweredBy of old new As out out' y result
+    looked_in_vain fault given result l bounds is w =
+        looked_so pin lacks (λ version pages. Unit {0}) (λ place calls up any. lost place calls up) fault given result l
+        (fails_any l) bounds is w
 
 -- What was found is listed
 module _ {Made : Calls → Type 0} {IsWorn : Type 0} {size : ℕ} {Allowed : Act → Type 0} {cursors : List Cursor}

@@ -13,7 +13,7 @@ use Rattle.store_machine.specs.Laws.{CommitsChange, IsSound, NeedsScreen, RunsGr
 use Rattle.store_machine.specs.Runs.{IsCalm, IsRun, calls_of}
 use Rattle.store_machine.specs.Searches.{ArePieces, At, End, Fetched, IsSearch, KeepsPin, Place, fetched, records_of}
 use Rattle.store_machine.specs.Structures.{IsMatched, IsNeedOf, IsScreened}
-use Rattle.store_machine.specs.Told.{PinsAreNew, RunsAdd, SlotsWereFree}
+use Rattle.store_machine.specs.Told.{CommitsStand, PinsAreNew, RunsAdd, SlotsWereFree}
 use Rattle.store_machine.specs.declared.machine.Event.TheVariants.{Pin}
 use Rattle.store_machine.specs.declared.machine.Found.{Found}
 use Rattle.store_machine.specs.declared.machine.History.{History}
@@ -30,6 +30,7 @@ pub record Laws : Type 0 where
   pub snapshots : SnapshotsStay
   pub commits : CommitsChange
   pub add : RunsAdd
+  pub stand : CommitsStand
   pub grow : RunsGrow
   pub slots : SlotsWereFree
   pub pins : PinsAreNew

@@ -216,12 +216,12 @@ watch_shown : {size : ℕ} {w w' : List Watched} {act : Act} {its : Calls} {line
 watch_shown v (WatchedAll name pattern calls version hits new few found) (inl e) =
     looked_told found.lookup version v found.version_is e
 watch_shown v (WatchedAll name pattern calls version hits new few found) (inr n) = absurd n
-watch_shown v (WatchLost name pattern calls want place need lookup) k = absurd (nothing_shown v k)
+watch_shown v (WatchLost name pattern calls want place new few need lookup) k = absurd (nothing_shown v k)
 watch_shown v (Current name w slot named) k = inl (end_watched w.hits w.version (length w.hits) w.rebuilt v k)
 watch_shown v (Refilled name w calls version hits named other found) k =
     looked_told found.lookup version v found.version_is
     (end_watched hits version (length hits) (rebuilt_watch version hits w).rebuilt v k)
-watch_shown v (HitsLost name w calls want place named need lookup) k = absurd (nothing_shown v k)
+watch_shown v (HitsLost name w calls want place named need lookup anew) k = absurd (nothing_shown v k)
 watch_shown v (TakenOut name w named) (inl n) = absurd n
 watch_shown v (TakenOut name w named) (inr n) = absurd n
 

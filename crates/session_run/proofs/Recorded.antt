@@ -1,29 +1,66 @@
 -- What is taken and kept of the records of an SD file.
-use Rattle.std.proofs.Common.{◌≡◌, ◌∙◌, ◌≤◌, ◌<◌, ◌+◌, ◌*◌, ◌++◌, ap, append_assoc, arith, Bool, Err, false, if◌then◌else◌, is_err, length, length-append, List, [], ◌∷◌, min, None, Ok, OnErr, OnOk, Option, refl, Result, Some, subst, sym, true, ℕ}
-use Rattle.std.proofs.Math.Nat.{min-le_right}
+use Rattle.std.proofs.Common.{◌≡◌, ◌∙◌, ◌≤◌, ◌<◌, ◌+◌, ◌*◌, ◌++◌, ◌⊎◌, ap, append_assoc, arith, Bool, Err, false, inl, inr, is_err, leb, length, length-append, List, [], ◌∷◌, min, None, Ok, OnErr, OnOk, Option, refl, Result, Some, subst, sym, true, ℕ}
+use Rattle.std.proofs.Math.Nat.{min-eq_left, min-eq_right, min-le_right}
+use Rattle.std.proofs.lemmas.Bool.Decides.{leb_tells}
 use Rattle.std.specs.declared.alloc.AllocError.{AllocError}
 use Rattle.std.specs.declared.alloc.Global.{Global}
 use Rattle.std.specs.declared.vec.Vec.{Vec}
 use Rattle.io_edge.specs.Lines.{TextLine, TooLong, Whole}
-use Rattle.session_run.specs.Records.{counted, has_long}
-use Rattle.session_run.specs.Requests.{molfile_text}
+use Rattle.session_run.specs.Records.{bytes_in, counted}
+use Rattle.session_run.specs.Requests.{has_long, molfile_text}
 use Rattle.session_run.specs.Taken.{AreKept, AreTaken, IsKept, IsPart, counted_all}
 use Rattle.session_run.specs.Transcript.{IsPrefixOf}
 use Rattle.session_run.specs.declared.records.Kept.{Kept}
+use Rattle.session_run.specs.declared.records.Part.{Part}
 use Rattle.session_run.specs.declared.records.Part.TheVariants as parts
 use Rattle.session_run.specs.declared.records.SdTexts.{SdTexts}
 use Rattle.session_run.specs.declared.records.TheConstants.{MOST_COUNTED}
+
+-- how many bytes are counted of a part with this text
+abbrev pub bytes_of : Part → List ℕ → ℕ
+bytes_of parts.Text text = length text
+bytes_of (parts.Long size) text = size
+bytes_of parts.Big text = MOST_COUNTED
+bytes_of (parts.Lost size) text = size
 
 -- a line more
 pub long_same : (lines : List TextLine) (line : List ℕ) → has_long (lines ++ Whole line ∷ []) ≡ has_long lines
 long_same [] line = refl
 long_same (Whole other ∷ lines) line = long_same lines line
-long_same (TooLong ∷ lines) line = refl
+long_same (TooLong size ∷ lines) line = refl
 
-pub long_now : (lines : List TextLine) → has_long (lines ++ TooLong ∷ []) ≡ true
-long_now [] = refl
-long_now (Whole other ∷ lines) = long_now lines
-long_now (TooLong ∷ lines) = refl
+long_now : (lines : List TextLine) (size : ℕ) → has_long (lines ++ TooLong size ∷ []) ≡ true
+long_now [] size = refl
+long_now (Whole other ∷ lines) size = long_now lines size
+long_now (TooLong first ∷ lines) size = refl
+
+-- the bytes of lines, with a line more
+bytes_line : (lines : List TextLine) (line : List ℕ) → bytes_in (lines ++ Whole line ∷ []) ≡ bytes_in lines + length line + 1
+bytes_line [] line = omega arith
+bytes_line (Whole other ∷ lines) line = let e = bytes_line lines line in omega (arith, e)
+bytes_line (TooLong first ∷ lines) line = let e = bytes_line lines line in omega (arith, e)
+
+bytes_long : (lines : List TextLine) (size : ℕ) → bytes_in (lines ++ TooLong size ∷ []) ≡ bytes_in lines + size + 1
+bytes_long [] size = omega arith
+bytes_long (Whole other ∷ lines) size = let e = bytes_long lines size in omega (arith, e)
+bytes_long (TooLong first ∷ lines) size = let e = bytes_long lines size in omega (arith, e)
+
+-- where none is too long, they are those of the text
+bytes_text : (lines : List TextLine) → has_long lines ≡ false → bytes_in lines ≡ length (molfile_text lines)
+bytes_text [] h = refl
+bytes_text (Whole line ∷ lines) h =
+    omega (arith, bytes_text lines h, length-append line (10 ∷ molfile_text lines))
+bytes_text (TooLong size ∷ lines) h = cc
+
+-- a count with a line more
+min_more : (a n : ℕ) → min (min a MOST_COUNTED + n + 1) MOST_COUNTED ≡ min (a + n + 1) MOST_COUNTED
+min_more a n = by (leb_tells a MOST_COUNTED) where
+  by : ((leb a MOST_COUNTED ≡ true) × (a ≤ MOST_COUNTED)) ⊎ ((leb a MOST_COUNTED ≡ false) × (MOST_COUNTED < a))
+      → min (min a MOST_COUNTED + n + 1) MOST_COUNTED ≡ min (a + n + 1) MOST_COUNTED
+  by (inl few) = ap (λ k. min (k + n + 1) MOST_COUNTED) (min-eq_left few.1)
+  by (inr many) =
+      ap (λ k. min (k + n + 1) MOST_COUNTED) (min-eq_right (omega (arith, many.1)))
+      ∙ (min-eq_right (omega arith) ∙ sym (min-eq_right (omega (arith, many.1))))
 
 pub text_line : (lines : List TextLine) (line : List ℕ)
     → molfile_text (lines ++ Whole line ∷ []) ≡ molfile_text lines ++ line ++ 10 ∷ []
@@ -33,7 +70,7 @@ text_line (Whole other ∷ lines) line =
     ∙ (ap (λ t. other ++ 10 ∷ t) (append_assoc (molfile_text lines) line (10 ∷ []))
     ∙ (sym (append_assoc other (10 ∷ molfile_text lines) (line ++ 10 ∷ []))
     ∙ sym (append_assoc (other ++ 10 ∷ molfile_text lines) line (10 ∷ []))))
-text_line (TooLong ∷ lines) line = text_line lines line
+text_line (TooLong size ∷ lines) line = text_line lines line
 
 size_line : (lines : List TextLine) (line : List ℕ)
     → length (molfile_text (lines ++ Whole line ∷ [])) ≡ length (molfile_text lines) + length line + 1
@@ -86,25 +123,47 @@ long_kept : (lines : List TextLine) (line : List ℕ) → has_long lines ≡ tru
     → has_long (lines ++ Whole line ∷ []) ≡ true
 long_kept lines line h = long_same lines line ∙ h
 
-pub long_more : (lines : List TextLine) (line text text' : List ℕ) → IsPart parts.Long lines text
-    → IsPart parts.Long (lines ++ Whole line ∷ []) text'
-long_more lines line text text' p = long_kept lines line p
+pub long_more : (lines : List TextLine) (line text text' : List ℕ) (n k : ℕ) → IsPart (parts.Long n) lines text
+    → k ≡ min (n + length line + 1) MOST_COUNTED → IsPart (parts.Long k) (lines ++ Whole line ∷ []) text'
+long_more lines line text text' n k p e = (
+  long_kept lines line p.0,
+  e ∙ (ap (λ m. min (m + length line + 1) MOST_COUNTED) p.1
+      ∙ (min_more (bytes_in lines) (length line) ∙ ap (λ m. min m MOST_COUNTED) (sym (bytes_line lines line)))),
+)
+
+-- and with one that is too long
+pub long_one : (lines : List TextLine) (size : ℕ) (any : List ℕ) (n k : ℕ) → n ≡ counted (Some lines)
+    → k ≡ min (n + size + 1) MOST_COUNTED → IsPart (parts.Long k) (lines ++ TooLong size ∷ []) any
+long_one lines size any n k e f = (
+  long_now lines size,
+  f ∙ (ap (λ m. min (m + size + 1) MOST_COUNTED) e
+      ∙ (min_more (bytes_in lines) size ∙ ap (λ m. min m MOST_COUNTED) (sym (bytes_long lines size)))),
+)
+
+-- how many bytes are counted of what was taken
+pub part_counts : (part : Part) (lines : List TextLine) (text : List ℕ) → IsPart part lines text
+    → counted (Some lines) ≡ bytes_of part text
+part_counts parts.Text lines text p =
+    let e = bytes_text lines p.0 in
+    min-eq_left (omega (arith, e, p.2)) ∙ (e ∙ sym (ap (λ (t : List ℕ). length t) p.1))
+part_counts (parts.Long size) lines text p = sym p.1
+part_counts parts.Big lines text p =
+    let e = bytes_text lines p.0 in min-eq_right (omega (arith, e, p.1))
+part_counts (parts.Lost size) lines text p =
+    let e = bytes_text lines p.0 in min-eq_left (omega (arith, e, p.2)) ∙ (e ∙ sym p.1)
+
+pub part_few : (part : Part) (lines : List TextLine) (text : List ℕ) → IsPart part lines text
+    → bytes_of part text ≤ MOST_COUNTED
+part_few part lines text p = subst (λ n. n ≤ MOST_COUNTED) (part_counts part lines text p) (min-le_right (bytes_in lines) MOST_COUNTED)
 
 pub big_more : (lines : List TextLine) (line text text' : List ℕ) → IsPart parts.Big lines text
     → IsPart parts.Big (lines ++ Whole line ∷ []) text'
 big_more lines line text text' p =
     (long_same lines line ∙ p.0, omega (arith, p.1, size_line lines line))
 
--- how many bytes it counts
-abbrev bytes_of : Bool → ℕ → ℕ
-bytes_of long n = if long then MOST_COUNTED else min n MOST_COUNTED
-
-counted_most : (r : Option (List TextLine)) → counted r ≤ MOST_COUNTED
+pub counted_most : (r : Option (List TextLine)) → counted r ≤ MOST_COUNTED
 counted_most None = omega arith
-counted_most (Some lines) = by (has_long lines) where
-  by : (b : Bool) → bytes_of b (length (molfile_text lines)) ≤ MOST_COUNTED
-  by true = omega arith
-  by false = min-le_right (length (molfile_text lines)) MOST_COUNTED
+counted_most (Some lines) = min-le_right (bytes_in lines) MOST_COUNTED
 
 -- more records, and more texts, behind those that are in the lists
 kept_behind : (sum : ℕ) (rs more : List (Option (List TextLine))) (ks : List Kept)

@@ -29,8 +29,8 @@ use Rattle.store_machine.specs.declared.machine.Step.{Step}
 use Rattle.session_run.specs.Acts.{Act, AnswersBy, Ask, Asks, Does, Fault, Faults, FoundData, Lines, ListedSame, ListedSimilar, Closed, MayAsk, MayChange, MayRegister, Opened, Refused, Refuses, RegisterEach, RegisteredEach, RegisteredNew, RegistersEach, Replies, Responds, Say, Says, Searched, Silence, Turned}
 use Rattle.session_run.specs.Cursors.{Calls, Cursor}
 use Rattle.session_run.specs.Made.{AnsweredBy, Broken, Said, Unsaid, Uses}
-use Rattle.session_run.specs.Records.{counted, has_long}
-use Rattle.session_run.specs.Requests.{molfile_text}
+use Rattle.session_run.specs.Records.{counted}
+use Rattle.session_run.specs.Requests.{has_long, molfile_text}
 use Rattle.session_run.specs.Responds.{IsTextRefusal}
 use Rattle.session_run.specs.Standings.{Keeps, both}
 use Rattle.session_run.specs.Taken.{AreKept, AreRead, AreTaken, IsReady, Registers}
@@ -40,6 +40,7 @@ use Rattle.session_run.specs.declared.records.Kept.TheVariants as keeps
 use Rattle.session_run.specs.declared.records.SdTexts.{SdTexts}
 use Rattle.session_run.specs.declared.records.TheConstants.{MOST_SD_BYTES}
 use Rattle.session_run.specs.declared.stop.Stop.{Stop}
+use Rattle.session_run.specs.declared.stop.Stop.TheVariants as stops
 use Rattle.session_run.proofs.Joined.{uses-more}
 use Rattle.session_run.proofs.Lines.{answered_as, may_change, text_is}
 use Rattle.session_run.proofs.Standing.{over-append}
@@ -107,6 +108,16 @@ module _ {S : Type 0} {of : meaning.Ghosts S} (first : ℕ) (records : List (Opt
       u.over,
     );
   }) u.said
+
+  -- none was, since there is no room for the lines
+  pub none_done : {old : S} {w : List Watched} {out out' : List ℕ} → Uses of old old []
+      → AnsweredBy of old old (EachAnswer first records w) out out' w (Err stops.NoMemory)
+  none_done made = Unsaid (record {
+    calls = [];
+    lines = faults_of records;
+    made = made;
+    is = (faults_each first 0 records, refl);
+  })
 
   -- a record more was answered
   pub way_more : ((a b c : S) (s t u : State) (xs ys : List Step) → of.stretch a b s xs t → of.stretch b c t ys u

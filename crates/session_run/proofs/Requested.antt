@@ -1,9 +1,12 @@
 -- Which acts a request allows, by what was read of it.
-use Rattle.std.proofs.Common.{◌≡◌, ◌++◌, ap, arith, codes, Contains, Err, get_or, inl, inr, length, List, [], ◌∷◌, Ok, refl, Result, subst, suc, sym, zero, ℕ}
+use Rattle.std.proofs.Common.{◌≡◌, ◌++◌, ap, arith, codes, Err, false, true, get_or, inl, inr, length, List, [], ◌∷◌, Ok, refl, Result, subst, suc, sym, zero, ℕ}
 use Rattle.std.specs.Fmt.{decimal}
-use Rattle.io_edge.specs.Lines.{TextLine, TooLong, Whole}
+use Rattle.io_edge.specs.Lines.{TextLine, Whole}
 use Rattle.mol_finish.specs.declared.fault.Format.{Format}
+use Rattle.mol_finish.specs.Structure.{IsAnswer}
 use Rattle.mol_finish.specs.declared.fault.Format.TheVariants.{Molfile}
+use Rattle.mol_finish.specs.declared.fault.TextFault.{TextFault}
+use Rattle.mol_finish.specs.declared.fault.TextFault.TheVariants as faults
 use Rattle.shell_lang.specs.Command as command
 use Rattle.shell_lang.specs.Command.{Command, IsLine, Spells, StartsMolfile, StartsWith, TakesLines, TakesRecords, molfile_command}
 use Rattle.shell_lang.specs.CommandView.{command_of}
@@ -15,19 +18,21 @@ use Rattle.shell_lang.specs.declared.command.MolfileChange.{MolfileChange}
 use Rattle.shell_lang.specs.declared.command.MolfileChange.TheVariants as molfile
 use Rattle.shell_lang.specs.declared.reply.Refusal.TheVariants as refusals
 use Rattle.shell_lang.proofs.Cuts.{no_space}
+use Rattle.store_machine.specs.declared.machine.Change.{Change}
+use Rattle.store_machine.specs.declared.machine.Change.TheVariants as changes
 use Rattle.session_run.specs.Acts.{Act, Allows, Fault, Lines, MayChange, Refused, RegisterEach, RequestAllows, RequestAnswer, Say}
 use Rattle.session_run.specs.Cursors.{Calls}
 use Rattle.session_run.specs.Made.{Answered}
 use Rattle.session_run.specs.Records.{behind_record, records_in}
-use Rattle.session_run.specs.Requests.{Request, IsLong, TakesMolfile, molfile_text}
-use Rattle.session_run.specs.Responds.{IsLostLine, IsTextChange, change_by}
+use Rattle.session_run.specs.Requests.{Request, IsLong, TakesMolfile, has_long, molfile_text}
+use Rattle.session_run.specs.Responds.{IsLineWithout, IsTextChange, IsTextRefusal, change_by}
 use Rattle.session_run.specs.Turn.{IsNext}
 use Rattle.session_run.specs.Watching.{Standing}
 use Rattle.session_run.specs.declared.commands.TextChange.{TextChange}
 use Rattle.session_run.specs.declared.commands.Verb.{Verb}
 use Rattle.session_run.specs.declared.commands.Verb.TheVariants as verbs
+use Rattle.session_run.specs.declared.records.Part.TheVariants as parts
 use Rattle.session_run.specs.declared.records.SdTexts.{SdTexts}
-use Rattle.session_run.specs.declared.request.Molfile.TheVariants as molfiles
 use Rattle.session_run.specs.declared.request.Next.TheVariants as nexts
 use Rattle.session_run.specs.declared.stop.Stop.{Stop}
 use Rattle.session_run.proofs.Standing.{rests}
@@ -40,16 +45,13 @@ behind_nothing {Made = Made} {IsWorn} {Is} {out' = out'} {x} {result} e a =
     subst (λ (l : List ℕ). Answered Made IsWorn Is l out' x result) e a
 
 -- a line that is whole, before a molfile without a line that is too long, or before records
-whole_line : (request : Request) (line : List ℕ) → request.line ≡ Whole line → ¬ Contains request.more TooLong
+pub whole_line : (request : Request) (line : List ℕ) → request.line ≡ Whole line → has_long request.more ≡ false
     → ¬ IsLong request
-whole_line request line e none (inl long) = cc
-whole_line request line e none (inr long) = none long.1
-
-no_lines : ¬ Contains {X = TextLine} [] TooLong
-no_lines (k, lt, h) = omega (arith, lt)
+whole_line request line e none (inl (size, long)) = cc
+whole_line request line e none (inr (takes, long)) = cc
 
 pub long_molfile : (request : Request) (line : List ℕ) → request.line ≡ Whole line → StartsMolfile line
-    → Contains request.more TooLong → IsLong request
+    → has_long request.more ≡ true → IsLong request
 long_molfile request line e starts long = inr (subst TakesMolfile (sym e) starts, long)
 
 -- the word of records is that of no molfile
@@ -79,7 +81,7 @@ records_apart line part count t starts = by (subst StartsMolfile t.2 starts) whe
 
 records_line : (request : Request) (line part : List ℕ) (count : ℕ) → request.line ≡ Whole line
     → TakesRecords line part count → ¬ IsLong request
-records_line request line part count e t (inl long) = cc
+records_line request line part count e t (inl (size, long)) = cc
 records_line request line part count e t (inr long) =
     records_apart line part count t (subst TakesMolfile e long.0)
 
@@ -89,7 +91,7 @@ pub line_allows : (standing : Standing) (request : Request) (line : List ℕ) (r
     → Allows standing request.more read act → RequestAllows standing request act
 line_allows standing request line read next is act a = inr (
   subst (λ (r : Request). ¬ IsLong r) (sym next.0)
-      (whole_line (record { line = Whole line; more = [] }) line refl no_lines),
+      (whole_line (record { line = Whole line; more = [] }) line refl refl),
   line,
   ap (λ (r : Request). r.line) next.0,
   read,
@@ -99,10 +101,10 @@ line_allows standing request line read next is act a = inr (
 
 -- a line with its molfile
 pub molfile_refused : (standing : Standing) (request : Request) (refusal : LineRefusal) (text : List ℕ)
-    (any : List ℕ) (texts : SdTexts) → IsNext (nexts.WithMolfile (Err refusal) molfiles.Text) request any text texts
+    (any : List ℕ) (texts : SdTexts) → IsNext (nexts.WithMolfile (Err refusal) parts.Text) request any text texts
     → RequestAllows standing request (Say (Refused (refusals.Line refusal)))
 molfile_refused standing request refusal text any texts n =
-    inr (whole_line request n.0 n.1 n.4.1, n.0, n.1, Err refusal, n.3, refl)
+    inr (whole_line request n.0 n.1 n.4.0, n.0, n.1, Err refusal, n.3, refl)
 
 may_be : (standing : Standing) (more : List TextLine) (text : List ℕ) (change : MolfileChange) (t : TextChange)
     (act : Act) → text ≡ molfile_text more → IsTextChange change t
@@ -121,35 +123,46 @@ may_be standing more text (molfile.Revise id) t act e is a =
 
 pub molfile_allows : (standing : Standing) (request : Request) (change : MolfileChange) (t : TextChange)
     (text : List ℕ) (any : List ℕ) (texts : SdTexts)
-    → IsNext (nexts.WithMolfile (Ok change) molfiles.Text) request any text texts
+    → IsNext (nexts.WithMolfile (Ok change) parts.Text) request any text texts
     → IsTextChange change t → (act : Act) → MayChange (change_by t.verb t.id t.format text) t.format text act
     → RequestAllows standing request act
 molfile_allows standing request change t text any texts n is act a = inr (
-  whole_line request n.0 n.1 n.4.1,
+  whole_line request n.0 n.1 n.4.0,
   n.0,
   n.1,
   molfile_command (Ok change),
   n.3,
-  may_be standing request.more text change t act n.4.0 is a,
+  may_be standing request.more text change t act n.4.1 is a,
 )
 
-pub lost_answer : {size : ℕ} {standing : Standing} (request : Request) (read : Result MolfileChange LineRefusal)
-    (text : List ℕ) (any : List ℕ) (texts : SdTexts)
-    → IsNext (nexts.WithMolfile read molfiles.Lost) request any text texts
-    → (said : line.Reply) → IsLostLine read said → RequestAnswer size standing request [] (said ∷ []) standing
-lost_answer {size} {standing} request read text any texts n said e = by read n e where
-  by : (read : Result MolfileChange LineRefusal) → IsNext (nexts.WithMolfile read molfiles.Lost) request any text texts
-      → IsLostLine read said → RequestAnswer size standing request [] (said ∷ []) standing
-  by (Ok (molfile.Register id)) n e =
+-- a line with its molfile, of which no text is kept
+module _ {size : ℕ} {standing : Standing} (request : Request) (own : List ℕ) (is : request.line ≡ Whole own)
+    (short : ¬ IsLong request) (said : line.Reply) where
+  fault_answer : (change : Change) (c : Command) → IsLine own (Ok c)
+      → ((act : Act) → MayChange change Molfile (molfile_text request.more) act
+      → Allows standing request.more (Ok c) act)
+      → (fault : TextFault) → IsAnswer Molfile (molfile_text request.more) (Err fault) → IsTextRefusal fault said
+      → RequestAnswer size standing request [] (said ∷ []) standing
+  fault_answer change c line_is allows faults.NoMemory h e =
       subst (λ (l : line.Reply). RequestAnswer size standing request [] (l ∷ []) standing) (sym e)
-      (rests Fault (inr (whole_line request n.0 n.1 n.4, n.0, n.1, Ok (command.RegisterMol id), n.3, tt)))
-  by (Ok (molfile.Revise id)) n e =
+      (rests Fault (inr (short, own, is, Ok c, line_is, allows (Say Fault) tt)))
+  fault_answer change c line_is allows fault h e =
       subst (λ (l : line.Reply). RequestAnswer size standing request [] (l ∷ []) standing) (sym e)
-      (rests Fault (inr (whole_line request n.0 n.1 n.4, n.0, n.1, Ok (command.ReviseMol id), n.3, tt)))
-  by (Err refusal) n e =
+      (rests (Refused (refusals.Text fault))
+      (inr (short, own, is, Ok c, line_is, allows (Say (Refused (refusals.Text fault))) h)))
+
+  pub untold_answer : (read : Result MolfileChange LineRefusal) → IsLine own (molfile_command read)
+      → (fault : TextFault) → IsAnswer Molfile (molfile_text request.more) (Err fault)
+      → IsLineWithout fault read said → RequestAnswer size standing request [] (said ∷ []) standing
+  untold_answer (Ok (molfile.Register id)) line_is fault h e =
+      fault_answer (changes.Register id Molfile (molfile_text request.more)) (command.RegisterMol id) line_is
+      (λ act may. may) fault h e
+  untold_answer (Ok (molfile.Revise id)) line_is fault h e =
+      fault_answer (changes.Revise id Molfile (molfile_text request.more)) (command.ReviseMol id) line_is
+      (λ act may. may) fault h e
+  untold_answer (Err refusal) line_is fault h e =
       subst (λ (l : line.Reply). RequestAnswer size standing request [] (l ∷ []) standing) (sym e)
-      (rests (Refused (refusals.Line refusal))
-      (inr (whole_line request n.0 n.1 n.4, n.0, n.1, Err refusal, n.3, refl)))
+      (rests (Refused (refusals.Line refusal)) (inr (short, own, is, Err refusal, line_is, refl)))
 
 -- a line with its records
 pub records_refused : (standing : Standing) (request : Request) (count : ℕ) (refusal : LineRefusal)

@@ -4,6 +4,7 @@ use Rattle.std.specs.Io.KnownBytes.{Appends}
 use Rattle.io_edge.specs.Faults.{Rose}
 use Rattle.io_edge.specs.Sink.{AppendsPrefix}
 use Rattle.io_edge.specs.Lines.{TextLine, Reading, lines_of, lines_left}
+use Rattle.io_edge.proofs.TextLines.{behind-none}
 use Rattle.shell_lang.specs.Reply.{text_of}
 use Rattle.session_run.specs.Acts.{Lines, RequestAnswer}
 use Rattle.session_run.specs.Cursors.{Calls}
@@ -85,10 +86,10 @@ false_is_not_true h = cc
 
 -- new lines
 pub fresh : (r : Reading) (limit : ℕ)
-    → r ≡ record { pending = []; long = false; taken = 0; limit = limit; ended = false; text = [] } → IsFresh r
+    → r ≡ record { pending = []; dropped = 0; taken = 0; limit = limit; ended = false; text = [] } → IsFresh r
 fresh r limit e = record {
   none = ap (λ (x : Reading). x.pending) e;
-  short = ap (λ (x : Reading). x.long) e;
+  short = ap (λ (x : Reading). x.dropped) e;
   untaken = ap (λ (x : Reading). x.taken) e;
   unended = ap (λ (x : Reading). x.ended) e;
 }
@@ -117,7 +118,7 @@ under_way-start size before put r standing fresh none = record {
   within = omega (arith, fresh.untaken);
 } where
   left : (input : List ℕ) → lines_of input ≡ lines_left r input
-  left input = rw (fresh.none, fresh.short) refl
+  left input = rw (fresh.none, fresh.short) (sym (behind-none input))
 
 -- what was put after this text, where it is told
 appended : (old text : List ℕ) (put next : Option (List ℕ)) → put ≡ Some old → Appends put next text

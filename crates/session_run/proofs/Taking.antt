@@ -1,12 +1,12 @@
 -- How a source is read on, and how the lines of a molfile are taken.
-use Rattle.std.proofs.Common.{◌≡◌, inl, inr, ℕ, zero, suc, ◌≤◌, Option, Some, List, [], ◌∷◌, ◌++◌, refl, sym, ap, ◌∙◌, subst, arith, append_assoc, append-nil, length-append, Contains}
+use Rattle.std.proofs.Common.{◌≡◌, inl, inr, ℕ, zero, suc, ◌≤◌, Option, Some, List, [], ◌∷◌, ◌++◌, refl, sym, ap, ◌∙◌, subst, arith, append_assoc, append-nil, length-append}
 use Rattle.std.proofs.KnownBytes.{Consumes-nil, Consumes-trans}
-use Rattle.std.proofs.lemmas.List.Elements.{Contains-append_left, Contains-append_right, Contains-append_cases}
 use Rattle.io_edge.specs.Lines.{TextLine, Whole, TooLong, Reading, AwaitsBytes}
-use Rattle.session_run.specs.Requests.{IsLast, IsLong, BeginWithMolfile, HasNoLast, molfile_text}
-use Rattle.session_run.specs.Turn.{AddsLine, IsMolfile, ReadsLines, ReadsOn, TakesMolfileLines, TakesPart}
-use Rattle.session_run.specs.declared.request.Molfile.{Molfile}
-use Rattle.session_run.specs.declared.request.Molfile.TheVariants.{Text, Long, Lost}
+use Rattle.session_run.specs.Requests.{IsLast, IsLong, BeginWithMolfile, HasNoLast}
+use Rattle.session_run.specs.Turn.{ReadsLines, ReadsOn, TakesMolfileLines, TakesPart}
+use Rattle.session_run.specs.Taken.{IsPart}
+use Rattle.session_run.specs.declared.records.Part.{Part}
+use Rattle.session_run.specs.declared.records.Part.TheVariants.{Text}
 use Rattle.session_run.proofs.Continued.{leaves, lines_more, lines_same}
 
 -- nothing was read
@@ -43,44 +43,10 @@ reads_more before now next f f' f'' old r r' u v = record {
   count = omega (arith, u.count, v.count);
 }
 
-molfile_text-append : (xs ys : List TextLine) → molfile_text (xs ++ ys) ≡ molfile_text xs ++ molfile_text ys
-molfile_text-append [] ys = refl
-molfile_text-append (Whole line ∷ xs) ys =
-    ap (λ t. line ++ 10 ∷ t) (molfile_text-append xs ys)
-    ∙ sym (append_assoc line (10 ∷ molfile_text xs) (molfile_text ys))
-molfile_text-append (TooLong ∷ xs) ys = molfile_text-append xs ys
-
--- a line more is long where one was, or it is
-long_before : (xs : List TextLine) (line : List ℕ) → Contains (xs ++ Whole line ∷ []) TooLong → Contains xs TooLong
-long_before xs line c =
-    elim (Contains-append_cases xs (Whole line ∷ []) TooLong c) [ inl a ↦ a | inr b ↦ absurd (alone b) ] where
-      alone : ¬ Contains (Whole line ∷ []) TooLong
-      alone (zero, lt, e) = cc
-      alone (suc n, lt, e) = omega (arith, lt)
-
-pub molfile_long : (xs : List TextLine) (text : List ℕ) → IsMolfile Long (xs ++ TooLong ∷ []) text
-molfile_long xs text = Contains-append_right xs (TooLong ∷ []) TooLong (0, omega arith, refl)
-
-pub molfile_line : (xs : List TextLine) (line text text' : List ℕ) (taken taken' : Molfile) → IsMolfile taken xs text
-    → AddsLine taken line text taken' text' → IsMolfile taken' (xs ++ Whole line ∷ []) text'
-molfile_line xs line text text' Text Text m a = (
-  a ∙ (append_assoc text line (10 ∷ [])
-      ∙ (ap (λ t. t ++ (line ++ 10 ∷ [])) m.0 ∙ sym (molfile_text-append xs (Whole line ∷ [])))),
-  λ c. m.1 (long_before xs line c),
-)
-molfile_line xs line text text' Text Lost m a = λ c. m.1 (long_before xs line c)
-molfile_line xs line text text' Text Long m a = absurd a
-molfile_line xs line text text' Long Long m a = Contains-append_left xs (Whole line ∷ []) TooLong m
-molfile_line xs line text text' Long Text m a = absurd a
-molfile_line xs line text text' Long Lost m a = absurd a
-molfile_line xs line text text' Lost Lost m a = λ c. m (long_before xs line c)
-molfile_line xs line text text' Lost Text m a = absurd a
-molfile_line xs line text text' Lost Long m a = absurd a
-
 -- A molfile under way: its lines so far, none of which is the last, however the input goes on
-pub record IsTaking (before now : Option (List ℕ)) (old new : Reading) (text : List ℕ) (taken : Molfile) : Type 0 where
+pub record IsTaking (before now : Option (List ℕ)) (old new : Reading) (text : List ℕ) (part : Part) : Type 0 where
   pub lines : List TextLine
-  pub is : IsMolfile taken lines text
+  pub is : IsPart part lines text
   pub none : HasNoLast lines
   pub told : ReadsLines old new before now (λ all left. all ≡ lines ++ left)
 
@@ -88,7 +54,7 @@ pub taking_none : (before : Option (List ℕ)) (r : Reading) (text : List ℕ) �
     → IsTaking before before r r text Text
 taking_none before r text e = record {
   lines = [];
-  is = (e, λ h. absurd (omega (arith, h.1)));
+  is = (refl, e, omega arith);
   none = tt;
   told = lines_same before r;
 }
@@ -110,11 +76,11 @@ NextIs old new before after line = ReadsLines old new before after (λ lines lef
 
 -- a line more that is not the last
 pub taking_line : (before now next : Option (List ℕ)) (f f' f'' : ℕ) (old r r' : Reading) (text text' : List ℕ)
-    (taken taken' : Molfile) (line : TextLine)
-    → (u : IsTaking before now old r text taken) → ReadsOn before now f f' old r → ReadsOn now next f' f'' r r'
+    (part part' : Part) (line : TextLine)
+    → (u : IsTaking before now old r text part) → ReadsOn before now f f' old r → ReadsOn now next f' f'' r r'
     → ¬ IsLast line → NextIs r r' now next line
-    → IsMolfile taken' (u.lines ++ line ∷ []) text' → IsTaking before next old r' text' taken'
-taking_line before now next f f' f'' old r r' text text' taken taken' line u reads then other is m = record {
+    → IsPart part' (u.lines ++ line ∷ []) text' → IsTaking before next old r' text' part'
+taking_line before now next f f' f'' old r r' text text' part part' line u reads then other is m = record {
   lines = u.lines ++ line ∷ [];
   is = m;
   none = none_more u.lines line u.none other;
@@ -125,17 +91,17 @@ taking_line before now next f f' f'' old r r' text text' taken taken' line u rea
 }
 
 -- what was taken of a molfile
-abbrev pub Taken : Option (List ℕ) → Option (List ℕ) → Reading → Reading → List ℕ → Molfile → Type 0
-Taken before after old new text taken =
-    (molfile : List TextLine) × IsMolfile taken molfile text × TakesMolfileLines old new before after molfile
+abbrev pub Taken : Option (List ℕ) → Option (List ℕ) → Reading → Reading → List ℕ → Part → Type 0
+Taken before after old new text part =
+    (molfile : List TextLine) × IsPart part molfile text × TakesMolfileLines old new before after molfile
 
 -- its last line was taken
 pub taken_last : (before now next : Option (List ℕ)) (f f' f'' : ℕ) (old r r' : Reading) (text text' : List ℕ)
-    (taken taken' : Molfile) (line : List ℕ)
-    → (u : IsTaking before now old r text taken) → ReadsOn before now f f' old r → ReadsOn now next f' f'' r r'
+    (part part' : Part) (line : List ℕ)
+    → (u : IsTaking before now old r text part) → ReadsOn before now f f' old r → ReadsOn now next f' f'' r r'
     → IsLast (Whole line) → NextIs r r' now next (Whole line)
-    → IsMolfile taken' (u.lines ++ Whole line ∷ []) text' → Taken before next old r' text' taken'
-taken_last before now next f f' f'' old r r' text text' taken taken' line u reads then last is m = (
+    → IsPart part' (u.lines ++ Whole line ∷ []) text' → Taken before next old r' text' part'
+taken_last before now next f f' f'' old r r' text text' part part' line u reads then last is m = (
   u.lines ++ Whole line ∷ [],
   m,
   lines_more (λ all left. all ≡ u.lines ++ left) (λ all left. all ≡ Whole line ∷ left)
@@ -149,11 +115,11 @@ taken_last before now next f f' f'' old r r' text text' taken taken' line u read
 
 -- the input's end was met
 pub taken_end : (before now next : Option (List ℕ)) (f f' f'' : ℕ) (old r r' : Reading) (text : List ℕ)
-    (taken : Molfile)
-    → IsTaking before now old r text taken → ReadsOn before now f f' old r → ReadsOn now next f' f'' r r'
+    (part : Part)
+    → IsTaking before now old r text part → ReadsOn before now f f' old r → ReadsOn now next f' f'' r r'
     → ReadsLines r r' now next (λ lines left. (lines ≡ []) × (left ≡ []))
-    → Taken before next old r' text taken
-taken_end before now next f f' f'' old r r' text taken u reads then end = (
+    → Taken before next old r' text part
+taken_end before now next f f' f'' old r r' text part u reads then end = (
   u.lines,
   u.is,
   lines_more (λ all left. all ≡ u.lines ++ left) (λ all left. (all ≡ []) × (left ≡ []))
@@ -167,10 +133,10 @@ taken_end before now next f f' f'' old r r' text taken u reads then end = (
 
 -- no line was read behind it
 pub taken_part : (before now next : Option (List ℕ)) (f f' f'' : ℕ) (old r r' : Reading) (text : List ℕ)
-    (taken : Molfile)
-    → IsTaking before now old r text taken → ReadsOn before now f f' old r → ReadsOn now next f' f'' r r'
+    (part : Part)
+    → IsTaking before now old r text part → ReadsOn before now f f' old r → ReadsOn now next f' f'' r r'
     → ReadsLines r r' now next (λ lines left. lines ≡ left) → AwaitsBytes r' → TakesPart old r' before next HasNoLast
-taken_part before now next f f' f'' old r r' text taken u reads then same awaits = record {
+taken_part before now next f f' f'' old r r' text part u reads then same awaits = record {
   part = u.lines;
   is = u.none;
   reads = lines_more (λ all left. all ≡ u.lines ++ left) (λ all left. all ≡ left) (λ all left. all ≡ u.lines ++ left)
@@ -180,5 +146,5 @@ taken_part before now next f f' f'' old r r' text taken u reads then same awaits
 }
 
 -- a line that is too long
-pub is_long_line : IsLong (record { line = TooLong; more = [] })
-is_long_line = inl refl
+pub is_long_line : (size : ℕ) → IsLong (record { line = TooLong size; more = [] })
+is_long_line size = inl (size, refl)

@@ -1,7 +1,8 @@
 -- Dialogues over a run: what their searches and cursors listed is the history's answer.
-use Rattle.std.proofs.Common.{◌≡◌, ◌++◌, ◌+◌, ◌*◌, ◌≤◌, ◌∙◌, ap, append-nil, append_assoc, arith, Bool, cond, Contains, drop, nat_le, take, inl, inr, length, List, [], ◌∷◌, refl, subst, sym, ℕ}
+use Rattle.std.proofs.Common.{◌≡◌, ◌++◌, ◌+◌, ◌*◌, ◌≤◌, ◌∙◌, ap, ap₂, append-nil, append_assoc, arith, Bool, cond, Contains, drop, nat_le, take, inl, inr, length, List, [], ◌∷◌, refl, subst, sym, ℕ}
 use Rattle.chem_core.specs.Molecule.{IsMolecule, Molecule}
 use Rattle.lookup.specs.Asked.{IsSameAs}
+use Rattle.lookup.specs.Fetches.{lookup_calls}
 use Rattle.lookup.specs.Truths.{AreAllOffered, AreAllSame, InRun, SamesAreAnswers, SimilarsAreAnswers}
 use Rattle.lookup.specs.declared.hits.HitList.{HitList}
 use Rattle.mol_finish.specs.Structure.{HasMolecule}
@@ -13,7 +14,7 @@ use Rattle.shell_lang.specs.declared.reply.Refusal.TheVariants as refusals
 use Rattle.similar_find.specs.Board.{Board, IsBest, Offer}
 use Rattle.smarts_parse.specs.Pattern.{PatternTerm}
 use Rattle.store_machine.specs.Answers.{AreAnswers, AreFound, AreMatched, AreTried}
-use Rattle.store_machine.specs.History.{snapshot}
+use Rattle.store_machine.specs.History.{head, snapshot}
 use Rattle.store_machine.specs.Laws.{IsSound}
 use Rattle.store_machine.specs.Runs.{IsCalm, IsRun, calls_of}
 use Rattle.store_machine.specs.Searches.{ArePieces, At, End, Fetched, fetched, past}
@@ -35,9 +36,10 @@ use Rattle.session_run.specs.Texts.{IsPatternOf}
 use Rattle.session_run.specs.Watching.{Standing, nothing_kept}
 use Rattle.session_run.specs.Truths.{AreAllHits, AreFoundSame, CursorsAreTrue, IsPageOf, IsUpToDate, PagesAreTrue, RegistrationsAreTrue, SamesAreTrue, SearchesAreHits, SearchesAreTrue, SimilarsAreTrue}
 use Rattle.session_run.proofs.ActPins.{dialogue_held}
+use Rattle.session_run.proofs.Brought.{commit_behind}
 use Rattle.session_run.proofs.Acts.{OneReading, fits, quiet_ask, quiet_note}
 use Rattle.session_run.proofs.Endings.{SameEnd, advance_end, fault_or_end, no_page_said, says_more, search_end}
-use Rattle.session_run.proofs.Found.{IsPrinted, NewFound, accepted_found, new_by, refused_found, same_by, same_found, similar_by, similar_found}
+use Rattle.session_run.proofs.Found.{IsPrinted, NewFound, accepted_made, new_by, refused_found, same_by, same_found, similar_by, similar_found}
 use Rattle.session_run.proofs.Followed.{Follows, follow_all, follow_new, places, turn_all}
 use Rattle.session_run.proofs.Parting.{Laws, last_piece, pieces_so_far, whole_pages}
 use Rattle.session_run.proofs.Passing.{IsOpen, advances_same, fault_or_more, fetches_keep, fetches_search, hits_listed, no_hit, one_in, open_advances, page_more, page_of}
@@ -300,6 +302,7 @@ module _ (laws : Laws) (finds : Finds) (reading : OneReading) (s t : State) (ste
       let true_all = searches-are-hits laws s t steps own size did.0 a.first a.its
       (a.rest ++ more) x.lines sound run calm a.calls_are found e.place_is in (
         record {
+          within = subst (λ (v : ℕ). v ≤ head t.history) e.numbers.version_is true_all.1.0;
           pattern = did.0;
           is = did.1;
           all = same_hits t.history found.version version found.tried tried did.0 did.0 found.hits
@@ -373,7 +376,13 @@ module _ (laws : Laws) (finds : Finds) (reading : OneReading) (s t : State) (ste
       let fresh : IsUpToDate t.history a.first version0 =
       laws.pins s t steps own o.slot version0 a.first (a.rest ++ more) sound run calm
       (a.calls_are ∙ ap (λ (l : Calls). a.first ++ (l ++ (a.rest ++ more))) o.its_are) in (
-        record { pattern = o.pattern; is = o.reads; all = r.0; length_is = r.2 },
+        record {
+          within = subst (λ (v : ℕ). v ≤ head t.history) (sym r.1) fresh.0;
+          pattern = o.pattern;
+          is = o.reads;
+          all = r.0;
+          length_is = r.2;
+        },
         r.1,
         no_older before (between ++ y ∷ after) x a version
             (subst (λ (v : ℕ). IsUpToDate t.history a.first v) (sym r.1) fresh),
@@ -487,6 +496,7 @@ module _ (laws : Laws) (finds : Finds) (reading : OneReading) (s t : State) (ste
       let version_is : l.version ≡ version = sym r.found.is.version_is ∙ r.numbers.version_is in
       let fresh = up_to_date a.first a.its (a.rest ++ more) a.calls_are l in (
         record {
+          within = subst (λ (v : ℕ). v ≤ head t.history) version_is fresh.0;
           same = record {
             molecule = did.0;
             structure = did.2.structure;
@@ -529,13 +539,28 @@ module _ (laws : Laws) (finds : Finds) (reading : OneReading) (s t : State) (ste
       }
 
   pub registrations_true : RegistrationsAreTrue t.history exchanges
+  unfolding found_same
   registrations_true before after x id text e is =
       let a = spot before after x e in (
         λ v k.
             let did = new_by reading a.here x.request id text (line.Accepted v) a.did.allowed
             (of_cursors (new_apart a.here x.request.more id text a.did.act
             (fits reading a.here x.request a.did.act (command.RegisterNew id text) a.did.allowed is)) a.did.does) is k tt in
-            found_same before after x a did.3 (accepted_found v did.4 k),
+            let n = accepted_made v did.4 k in
+            let l = n.found.found.lookup in
+            let pages : Calls = l.pages ++ (events.Unpin l.slot, replies.Unpinned) ∷ [] in
+            let commit : Calls = (events.Commit n.change, replies.Committed v) ∷ [] in
+            let rest : Calls = a.rest ++ more in
+            let its : a.its ≡ lookup_calls l.slot l.version l.pages ++ commit =
+            n.found.made ∙ ap₂ (λ (xs ys : Calls). xs ++ ys) l.made n.last in
+            let made_is : calls_of own steps ≡ (a.first ++ (events.Pin, replies.Pinned l.slot l.version) ∷ pages)
+            ++ (events.Commit n.change, replies.Committed v) ∷ rest =
+            a.calls_are ∙ (ap (λ (cs : Calls). a.first ++ (cs ++ rest)) its
+            ∙ (ap (λ (cs : Calls). a.first ++ cs) (append_assoc (lookup_calls l.slot l.version l.pages) commit rest)
+            ∙ sym (append_assoc a.first (lookup_calls l.slot l.version l.pages) (commit ++ rest)))) in (
+              found_same before after x a did.3 n.found,
+              commit_behind laws.pins own s t steps a.first pages rest l.slot l.version n.change v sound run calm made_is,
+            ),
         λ same k.
             let did = new_by reading a.here x.request id text (line.Refused (refusals.Same same)) a.did.allowed
             (of_cursors (new_apart a.here x.request.more id text a.did.act
@@ -558,6 +583,7 @@ module _ (laws : Laws) (finds : Finds) (reading : OneReading) (s t : State) (ste
       let version_is : l.version ≡ version = sym r.found.is.version_is ∙ r.numbers.version_is in
       let fresh = up_to_date a.first a.its (a.rest ++ more) a.calls_are l in (
         record {
+          within = subst (λ (v : ℕ). v ≤ head t.history) version_is fresh.0;
           molecule = did.0;
           structure = did.2.structure;
           print = did.1;

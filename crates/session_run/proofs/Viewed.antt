@@ -125,7 +125,7 @@ module _ {S : Type 0} {of : meaning.Ghosts S} {old new : S} {size : ℕ} {cursor
       let k = looked_known looks bounds in
       listed_now name seen.w k.1 k.0 result refl seen.named refl k.2
       (subst (λ (n : ℕ). k.0 ≡ (events.Pin, replies.Pinned k.1 n) ∷ (events.Unpin k.1, replies.Unpinned) ∷ [])
-      seen.version_is k.3) (need_seen name v seen need) k.4
+      seen.version_is k.3) (need_seen name v seen need) k.4 k.5
       (subst (λ (n : ℕ). TellsHits n seen.w.hits seen.w.rebuilt out out' result) seen.version_is
       (subst (λ (l : List ℕ). TellsHits v.version l seen.w.rebuilt out out' result) seen.hits_are
       (subst (λ (n : ℕ). TellsHits v.version v.hits.now n out out' result) seen.rebuilt_is t)))
@@ -150,6 +150,6 @@ module _ {S : Type 0} {of : meaning.Ghosts S} {old new : S} {size : ℕ} {cursor
           subst (λ (n : ℕ). out' ≡ out ++ text_of (hit_lines found.version found.hits.items (min (n + 1) (2 ^ 32 - 1))))
               seen.rebuilt_is f.2,
         )
-        | inr f ↦ unfilled name seen.w found.version found.hits.items l.0 result seen.named refl l.1 hits
+        | inr f ↦ unfilled name seen.w found.version found.hits.items l.0 result seen.named refl l.1 other hits
             (ap watched_all f.0) f.1
       ]

@@ -21,10 +21,10 @@ IsWatchAct _ = ⊥
 pub watch_is : {size : ℕ} {w w' : List Watched} {act : Act} {calls : Calls} {lines : Lines}
     → DoesWatch size w act calls lines w' → IsWatchAct act
 watch_is (WatchedAll name pattern calls version hits new few found) = tt
-watch_is (WatchLost name pattern calls want place need lookup) = tt
+watch_is (WatchLost name pattern calls want place new few need lookup) = tt
 watch_is (Current name w slot named) = tt
 watch_is (Refilled name w calls version hits named other found) = tt
-watch_is (HitsLost name w calls want place named need lookup) = tt
+watch_is (HitsLost name w calls want place named need lookup anew) = tt
 watch_is (TakenOut name w named) = tt
 
 pub asks_no_watch : (event : Event) (act : Act) → MayAsk event act → IsWatchAct act → ⊥
@@ -37,11 +37,11 @@ asks_no_watch event _ may is = is
 pub watch_looks : {size : ℕ} {w w' : List Watched} {act : Act} {calls : Calls} {lines : Lines}
     → DoesWatch size w act calls lines w' → (calls ≡ []) ⊎ IsLookup size calls
 watch_looks (WatchedAll name pattern calls version hits new few found) = inr (alone found.lookup)
-watch_looks (WatchLost name pattern calls want place need lookup) = inr (alone lookup)
+watch_looks (WatchLost name pattern calls want place new few need lookup) = inr (alone lookup)
 watch_looks (Current name w slot named) = inr (alone {want = []} {place = At 0}
     (record { slot = slot; version = w.version; pages = []; made = refl; fetches = refl }))
 watch_looks (Refilled name w calls version hits named other found) = inr (alone found.lookup)
-watch_looks (HitsLost name w calls want place named need lookup) = inr (alone lookup)
+watch_looks (HitsLost name w calls want place named need lookup anew) = inr (alone lookup)
 watch_looks (TakenOut name w named) = inl refl
 
 -- an act that is none of them

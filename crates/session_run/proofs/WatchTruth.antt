@@ -22,8 +22,9 @@ use Rattle.session_run.specs.Dialogue.{AreExchanged, Exchange, IsCommand, StaysW
 use Rattle.session_run.specs.Lookups.{FindsHits}
 use Rattle.session_run.specs.Requests.{Request}
 use Rattle.session_run.specs.Texts.{IsPatternOf}
-use Rattle.session_run.specs.Truths.{DialoguesAreTrue, IsUpToDate, WatchesAreTrue, WatchingsAreTrue}
+use Rattle.session_run.specs.Truths.{CommitsAreTrue, DialoguesAreTrue, IsUpToDate, WatchesAreTrue, WatchingsAreTrue}
 use Rattle.session_run.specs.Watching.{AfterCall, AfterCalls, IsUnwatched, Standing, Watched, new_watch, nothing_kept, rebuilt_watch, watch_of}
+use Rattle.session_run.proofs.Accepted.{accepted_call, stands_behind}
 use Rattle.session_run.proofs.Acts.{OneReading, fits, quiet_ask, quiet_note}
 use Rattle.session_run.proofs.Brought.{commit_of}
 use Rattle.session_run.proofs.Parting.{Laws, whole_pages}
@@ -65,11 +66,11 @@ act_kept : {size : ℕ} {w w' : List Watched} {act : Act} {its : Calls} {lines :
     → IsKeptAs name pattern w → IsKeptAs name pattern w'
 act_kept {w = w} name pattern (WatchedAll own p calls version hits new few found) other k =
     added_kept name pattern w (new_watch own p version hits) k
-act_kept name pattern (WatchLost own p calls want place need lookup) other k = k
+act_kept name pattern (WatchLost own p calls want place new few need lookup) other k = k
 act_kept name pattern (Current own x slot named) other k = k
 act_kept {w = w} name pattern (Refilled own x calls version hits named differs found) other k =
     rebuilt_kept own version hits name pattern w k
-act_kept name pattern (HitsLost own x calls want place named need lookup) other k = k
+act_kept name pattern (HitsLost own x calls want place named need lookup anew) other k = k
 act_kept {w = w} name pattern (TakenOut own x named) other k = without_kept own name pattern w (other own refl) k
 
 all_kept : {size : ℕ} {standing standing' : Standing} {act : Act} {its : Calls} {lines : Lines} (request : Request)
@@ -195,12 +196,12 @@ watched_by reading {size} {standing} {standing'} {act} {its} {lines} request nam
         let f = fits reading standing request act (command.Watch name text) a is in
         watching_from name text own p v version count hits new found f.0 f.1
         (one_in (line.Watching v (length hits)) (line.Watching version count) k)
-    by a (WatchLost own p calls want place need lookup) k =
+    by a (WatchLost own p calls want place new few need lookup) k =
         absurd (fault_or_watching version count (one_in line.MemoryFault (line.Watching version count) k))
     by {act = act} a (Current own x slot named) k = absurd (fits reading standing request act (command.Watch name text) a is)
     by {act = act} a (Refilled own x calls v hits named other found) k =
         absurd (fits reading standing request act (command.Watch name text) a is)
-    by {act = act} a (HitsLost own x calls want place named need lookup) k =
+    by {act = act} a (HitsLost own x calls want place named need lookup anew) k =
         absurd (fits reading standing request act (command.Watch name text) a is)
     by {act = act} a (TakenOut own x named) k = absurd (fits reading standing request act (command.Watch name text) a is)
 
@@ -260,7 +261,7 @@ module _ (reading : OneReading) {size : ℕ} (standing standing' : Standing) (re
       → IsListing its w w' name version count lines
   by_watches {act = act} a (WatchedAll own p calls v hits new few found) k =
       absurd (fits reading standing request act (command.Hits name) a is)
-  by_watches {act = act} a (WatchLost own p calls want place need lookup) k =
+  by_watches {act = act} a (WatchLost own p calls want place new few need lookup) k =
       absurd (fits reading standing request act (command.Hits name) a is)
   by_watches {act = act} a (Current own x slot named) k =
       listing_from name own x slot version count rebuilt ((events.Unpin slot, replies.Unpinned) ∷ [])
@@ -273,7 +274,7 @@ module _ (reading : OneReading) {size : ℕ} (standing standing' : Standing) (re
       (l.made ∙ ap (λ (n : ℕ). (events.Pin, replies.Pinned l.slot n)
       ∷ (l.pages ++ (events.Unpin l.slot, replies.Unpinned) ∷ [])) (sym found.version_is))
       (rebuilt_found own v hits w x named) k
-  by_watches a (HitsLost own x calls want place named need lookup) k =
+  by_watches a (HitsLost own x calls want place named need lookup anew) k =
       absurd (fault_or_ended version count rebuilt (one_in line.MemoryFault (line.EndWatched version count rebuilt) k))
   by_watches {act = act} a (TakenOut own x named) k = absurd (fits reading standing request act (command.Hits name) a is)
 
@@ -326,11 +327,11 @@ module _ (laws : Laws) (finds : Finds) (reading : OneReading) (s t : State) (ste
       → IsRight t.history w'
   act_right {w} before later e (WatchedAll name p its version hits new few found) r =
       added_right t.history w (new_watch name p version hits) (found_are before its later p version hits e found) r
-  act_right before later e (WatchLost name p its want place need lookup) r = r
+  act_right before later e (WatchLost name p its want place new few need lookup) r = r
   act_right before later e (Current name x slot named) r = r
   act_right {w} before later e (Refilled name x its version hits named other found) r =
       rebuilt_right t.history name version hits w x named (found_are before its later x.pattern version hits e found) r
-  act_right before later e (HitsLost name x its want place named need lookup) r = r
+  act_right before later e (HitsLost name x its want place named need lookup anew) r = r
   act_right {w} before later e (TakenOut name x named) r = without_right t.history name w r
 
   all_right : {here then : Standing} {act : Act} {its : Calls} {lines : Lines} (before later : Calls)
@@ -349,6 +350,24 @@ module _ (laws : Laws) (finds : Finds) (reading : OneReading) (s t : State) (ste
       let n = next_calls (calls_of own steps) before its d.0 d.1 later e d.4 in
       dialogue_right xs (before ++ d.0) d.1 later d.2 then n.1 d.5 (all_right before (d.1 ++ later) n.0 d.3.does r)
 
+  pub commits_true : CommitsAreTrue t.history size exchanges
+  commits_true before after x v e k =
+      let a = spot laws finds reading s t steps own size exchanges calls more standing sound run calm made said before
+      after x e in
+      let h = accepted_call v a.did.does k in (
+        h.0,
+        record {
+          here = a.here;
+          then = a.then;
+          calls = a.its;
+          answer = a.did;
+          before = h.1;
+          later = h.2;
+          made = h.3;
+        },
+        stands_behind laws.stand own s t steps a.first a.its (a.rest ++ more) v run calm a.calls_are h,
+      )
+
   none_right : IsRight t.history []
   none_right name w e = absurd (none_some w e)
 
@@ -365,6 +384,7 @@ module _ (laws : Laws) (finds : Finds) (reading : OneReading) (s t : State) (ste
       (a.calls_are ∙ ap (λ (cs : Calls). a.first ++ (cs ++ (a.rest ++ more))) l.made)) in (
         did.hits,
         record {
+          within = fresh.0;
           pattern = did.pattern;
           is = did.is;
           are = found_are a.first a.its (a.rest ++ more) did.pattern version did.hits a.calls_are did.found;
@@ -407,6 +427,7 @@ module _ (laws : Laws) (finds : Finds) (reading : OneReading) (s t : State) (ste
       laws.pins s t steps own l.slot version b.first (l.rest ++ (b.rest ++ more)) sound run calm
       (b.calls_are ∙ ap (λ (cs : Calls). b.first ++ (cs ++ (b.rest ++ more))) l.its_are) in (
         record {
+          within = fresh.0;
           pattern = did.pattern;
           is = did.is;
           are = subst (λ (ids : List ℕ). AreHits t.history version did.pattern ids) (sym l.listed)
@@ -421,6 +442,7 @@ module _ (laws : Laws) (finds : Finds) (reading : OneReading) (s t : State) (ste
 
 pub dialogues-are-true : Laws → Finds → OneReading → DialoguesAreTrue
 dialogues-are-true laws finds reading s t steps own size exchanges calls more standing sound run calm made said = record {
+  commits = commits_true laws finds reading s t steps own size exchanges calls more standing sound run calm made said;
   searches = searches_true laws finds reading s t steps own size exchanges calls more standing sound run calm made said;
   cursors = cursors_true laws finds reading s t steps own size exchanges calls more standing sound run calm made said;
   pages = pages_true laws finds reading s t steps own size exchanges calls more standing sound run calm made said;

@@ -1,6 +1,6 @@
 -- What the acts on watches answer, by what was found and told.
 use Rattle.std.proofs.Common.{◌≡◌, ◌≢◌, ◌<◌, ◌++◌, ◌+◌, ◌∙◌, ap, Bool, cond, filter, inl, inr, length, List, [], ◌∷◌, map, None, not, Ok, Option, option_map, refl, Result, Some, subst, sym, true, false, ℕ}
-use Rattle.lookup.specs.Fetches.{Known, LooksUnless}
+use Rattle.lookup.specs.Fetches.{IsAnew, Known, LooksUnless}
 use Rattle.lookup.specs.Lists.{IsHitList}
 use Rattle.lookup.specs.declared.hits.HitList.{HitList}
 use Rattle.shell_lang.specs.Reply as line
@@ -16,6 +16,7 @@ use Rattle.store_machine.specs.declared.machine.Found.{Found}
 use Rattle.store_machine.specs.declared.machine.Reply.TheVariants as replies
 use Rattle.watch_list.specs.Watches as list
 use Rattle.watch_list.specs.Watches.{Watch}
+use Rattle.watch_list.specs.declared.list.TheConstants.{MOST_WATCHES}
 use Rattle.session_run.specs.Acts.{Act, Current, DoesAll, HitsLost, ListHits, MayUnwatch, Refilled, Refused, Responds, TakenOut, Unwatch, WatchLost, WatchedAll, watch_lines}
 use Rattle.session_run.specs.Acts as act
 use Rattle.session_run.specs.Cursors.{Calls, Cursor}
@@ -91,22 +92,23 @@ found_hits {want = want} pattern list l need h = record {
 
 -- One that came so far
 pub watch_lost : {size : ℕ} {Allowed : Act → Type 0} {standing : Standing} {want : List Bool} (name : List ℕ)
-    (pattern : PatternTerm) → Allowed (act.Watch name pattern) → IsNeedOf pattern want → (place : Place) (calls : Calls)
+    (pattern : PatternTerm) → Allowed (act.Watch name pattern) → IsUnwatched standing.watches name
+    → length standing.watches < MOST_WATCHES → IsNeedOf pattern want → (place : Place) (calls : Calls)
     → LooksUp size want place calls → Responds size Allowed standing calls (line.MemoryFault ∷ []) standing
-watch_lost {want = want} name pattern may need place calls l = record {
+watch_lost {want = want} name pattern may new few need place calls l = record {
   act = act.Watch name pattern;
   allowed = may;
-  does = inr (WatchLost name pattern calls want place need l, refl);
+  does = inr (WatchLost name pattern calls want place new few need l, refl);
 }
 
 pub hits_lost : {size : ℕ} {Allowed : Act → Type 0} {standing : Standing} {want : List Bool} (name : List ℕ)
     (w : Watched) → watch_of name standing.watches ≡ Some w → Allowed (ListHits name) → IsNeedOf w.pattern want
-    → (place : Place) (calls : Calls) → LooksUp size want place calls
+    → (place : Place) (calls : Calls) (l : LooksUp size want place calls) → IsAnew w.version l.version l.pages
     → Responds size Allowed standing calls (line.MemoryFault ∷ []) standing
-hits_lost {want = want} name w named may need place calls l = record {
+hits_lost {want = want} name w named may need place calls l anew = record {
   act = ListHits name;
   allowed = may;
-  does = inr (HitsLost name w calls want place named need l, refl);
+  does = inr (HitsLost name w calls want place named need l anew, refl);
 }
 
 module _ {size : ℕ} {Allowed : Act → Type 0} {cursors : List Cursor} {w w' : List Watched} where
@@ -122,7 +124,7 @@ module _ {Made : Calls → Type 0} {IsWorn : Type 0} {size : ℕ} {Allowed : Act
   -- a pattern is watched
   pub watched_now : (name : List ℕ) (pattern : PatternTerm) (version : ℕ) (hits : List ℕ) (calls : Calls)
       (result : Result (Unit {0}) Stop) → Allowed (act.Watch name pattern) → Made calls
-      → FindsHits size pattern calls version hits → IsUnwatched w name → length w < 16
+      → FindsHits size pattern calls version hits → IsUnwatched w name → length w < MOST_WATCHES
       → Adds name pattern version hits w w' out out' result
       → Answered Made IsWorn (Responds size Allowed (both cursors w)) out out' (both cursors w') result
   watched_now name pattern version hits calls result may made found new few (inl (e, t)) =
@@ -135,16 +137,16 @@ module _ {Made : Calls → Type 0} {IsWorn : Type 0} {size : ℕ} {Allowed : Act
       })) t
   watched_now name pattern version hits calls result may made found new few (inr (e, t)) =
       said calls line.MemoryFault result made
-      (stay e (watch_lost name pattern may found.need End calls found.lookup)) t
+      (stay e (watch_lost name pattern may new few found.need End calls found.lookup)) t
 
   -- hits that are of the version that was pinned are listed
   pub listed_now : (name : List ℕ) (x : Watched) (slot : ℕ) {want : List Bool} (calls : Calls)
       (result : Result (Unit {0}) Stop) → w' ≡ w → watch_of name w ≡ Some x → Allowed (ListHits name) → Made calls
       → calls ≡ (events.Pin, replies.Pinned slot x.version) ∷ (events.Unpin slot, replies.Unpinned) ∷ []
-      → IsNeedOf x.pattern want → LooksUp size want (At 0) calls
+      → IsNeedOf x.pattern want → (l : LooksUp size want (At 0) calls) → l.pages ≡ []
       → TellsHits x.version x.hits x.rebuilt out out' result
       → Answered Made IsWorn (Responds size Allowed (both cursors w)) out out' (both cursors w') result
-  listed_now name x slot calls result same named may made calls_are need l (inl e) =
+  listed_now name x slot calls result same named may made calls_are need l none (inl e) =
       subst (λ (r : Result (Unit {0}) Stop). Answered Made IsWorn (Responds size Allowed (both cursors w)) out out'
       (both cursors w') r) (sym e.0) (Said tt (record {
         calls = calls;
@@ -158,8 +160,9 @@ module _ {Made : Calls → Type 0} {IsWorn : Type 0} {size : ℕ} {Allowed : Act
                   (both cursors w)) (sym calls_are) (inr (Current name x slot named, refl));
             });
       }) e.1)
-  listed_now name x slot calls result same named may made calls_are need l (inr t) =
-      said calls line.MemoryFault result made (stay same (hits_lost name x named may need (At 0) calls l)) t
+  listed_now name x slot calls result same named may made calls_are need l none (inr t) =
+      said calls line.MemoryFault result made
+      (stay same (hits_lost name x named may need (At 0) calls l (inl none))) t
 
   -- others are listed and kept
   pub refilled_now : (name : List ℕ) (x : Watched) (version : ℕ) (hits : List ℕ) (calls : Calls)
@@ -185,11 +188,13 @@ module _ {Made : Calls → Type 0} {IsWorn : Type 0} {size : ℕ} {Allowed : Act
 
   pub unfilled : (name : List ℕ) (x : Watched) (version : ℕ) (hits : List ℕ) (calls : Calls)
       (result : Result (Unit {0}) Stop) → watch_of name w ≡ Some x → Allowed (ListHits name) → Made calls
-      → FindsHits size x.pattern calls version hits → w' ≡ w → Tells line.MemoryFault out out' result
+      → version ≢ x.version → FindsHits size x.pattern calls version hits → w' ≡ w
+      → Tells line.MemoryFault out out' result
       → Answered Made IsWorn (Responds size Allowed (both cursors w)) out out' (both cursors w') result
-  unfilled name x version hits calls result named may made found e t =
+  unfilled name x version hits calls result named may made other found e t =
       said calls line.MemoryFault result made
-      (stay e (hits_lost name x named may found.need End calls found.lookup)) t
+      (stay e (hits_lost name x named may found.need End calls found.lookup
+      (inr (λ k. other (found.version_is ∙ k))))) t
 
 -- a watch that is taken out
 pub unwatched : {Made : Calls → Type 0} {IsWorn : Type 0} {size : ℕ} {cursors : List Cursor} {w w' : List Watched}
@@ -212,11 +217,12 @@ pub looked_known : {S X : Type 0} {of : meaning.Ghosts S} {old new : S} {size kn
     → NotRaised (of.bounds old) (of.bounds new)
     → (calls : Calls) × (slot : ℕ) × Uses of old new calls
     × (calls ≡ (events.Pin, replies.Pinned slot known) ∷ (events.Unpin slot, replies.Unpinned) ∷ [])
-    × LooksUp size want (At 0) calls
+    × (l : LooksUp size want (At 0) calls) × (l.pages ≡ [])
 looked_known (Known f none is made held) bounds = (
   _,
   f.slot,
   looked_uses (At 0) f made held bounds,
   rw (none, is) refl,
   looks_up f,
+  none,
 )

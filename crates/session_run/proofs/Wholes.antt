@@ -3,7 +3,7 @@ use Rattle.std.proofs.Common.{◌≡◌, ◌≢◌, if◌then◌else◌, inl, in
 use Rattle.std.specs.Prelude.{◌==◌}
 use Rattle.std.proofs.lemmas.Bool.Decides.{nat_tests}
 use Rattle.std.proofs.lemmas.List.{map-append}
-use Rattle.io_edge.specs.Lines.{AwaitsBytes, Piece, Reading, TextLine, TooLong, as_line, before_first, behind_lf, ended_pieces, lines_left, lines_of, pieces, text_of, whole_lines}
+use Rattle.io_edge.specs.Lines.{AwaitsBytes, Piece, Reading, TextLine, as_line, before_first, ended_pieces, lines_behind, lines_left, lines_of, pieces, rest_as_line, text_of, whole_lines}
 use Rattle.session_run.specs.Requests.{AreAllWhole, BeginWith, BeginWithAll, BeginWithMolfile, BeginWithRecords, IsPartOfRequest, Request, ends_record}
 
 -- ---- lines of a text with one more LF
@@ -59,19 +59,12 @@ none_whole [] none = refl
 none_whole (b ∷ bytes) none = rw (not_first b bytes none)
     (none_ended b (pieces bytes) (none_whole bytes (not_behind b bytes none)))
 
-none_behind : (bytes : List ℕ) → ¬ Contains bytes 10 → behind_lf (bytes ++ 10 ∷ []) ≡ []
-none_behind [] none = refl
-none_behind (b ∷ bytes) none = rw (not_first b bytes none) (none_behind bytes (not_behind b bytes none))
-
-left_by : (long : Bool) (bytes : List ℕ) → ¬ Contains bytes 10 → (y : TextLine)
-    × (cond long (TooLong ∷ lines_of (behind_lf (bytes ++ 10 ∷ []))) (lines_of (bytes ++ 10 ∷ [])) ≡ y ∷ [])
-left_by true bytes none = (TooLong, ap (λ l. TooLong ∷ lines_of l) (none_behind bytes none))
-left_by false bytes none = let h = whole_and_one bytes in
-    (h.0, h.1 ∙ ap (λ l. map (λ piece. as_line (text_of piece)) l ++ h.0 ∷ []) (none_whole bytes none))
-
 -- one line is left, where one more LF follows
 pub one_left : (r : Reading) → AwaitsBytes r → (y : TextLine) × (lines_left r (10 ∷ []) ≡ y ∷ [])
-one_left r awaits = left_by r.long r.pending (λ c. awaits.none (inl c))
+one_left r awaits =
+    let h = last_piece r.pending in
+    let none = none_whole r.pending (λ c. awaits.none (inl c)) in
+    (rest_as_line r.dropped (text_of h.0), ap (lines_behind r.dropped) (h.1 ∙ ap (λ ps. ps ++ h.0 ∷ []) none))
 
 -- ---- requests that leave a line are whole
 

@@ -6,6 +6,7 @@ use Rattle.std.specs.Prelude.{◌≡◌, ◌≢◌, ◌⊎◌, ◌≤◌, ◌<�
 use Rattle.chem_core.specs.Molecule.{Molecule}
 use Rattle.io_edge.specs.Lines.{TextLine, Whole}
 use Rattle.lookup.specs.Asked.{IsEmptyPrint}
+use Rattle.lookup.specs.Fetches.{IsAnew}
 use Rattle.lookup.specs.declared.hits.HitList.{HitList}
 use Rattle.lookup.specs.declared.similar.SimilarList.{SimilarList}
 use Rattle.mol_finish.specs.Structure.{IsStructureOf}
@@ -32,11 +33,12 @@ use Rattle.store_machine.specs.declared.machine.Reply.{Reply}
 use Rattle.store_machine.specs.declared.machine.Reply.TheVariants as replies
 use Rattle.store_machine.specs.declared.machine.Status.{Status}
 use Rattle.store_machine.specs.declared.machine.Status.TheVariants as status
+use Rattle.watch_list.specs.declared.list.TheConstants.{MOST_WATCHES}
 use Rattle.session_run.specs.Cursors.{Calls, Cursor, IsNoName, IsSearched}
 use Rattle.session_run.specs.Lookups.{FindsHits, FindsSame, FindsSimilar, LooksUp}
 use Rattle.session_run.specs.declared.records.TheConstants.{MOST_SD_BYTES}
-use Rattle.session_run.specs.Records.{counted, data_of, has_long, records_in}
-use Rattle.session_run.specs.Requests.{Request, IsLong, molfile_text}
+use Rattle.session_run.specs.Records.{counted, data_of, records_in}
+use Rattle.session_run.specs.Requests.{Request, IsLong, has_long, molfile_text}
 use Rattle.session_run.specs.Texts.{IsTextFault, IsPatternOf, IsPatternFault}
 use Rattle.session_run.specs.Watching.{AfterCalls, IsUnwatched, Standing, Watched, new_watch, rebuilt_in, rebuilt_watch, watch_of, without}
 
@@ -295,14 +297,17 @@ watch_lines w = hit_lines w.version w.hits w.rebuilt
 
 -- What an act does with these watches: its calls, its lines, and the watches then. A pattern is watched from its hits
 -- at the version that was pinned on; its hits are listed where they are of the version that was pinned, else they are
--- searched anew; or memory ran out, in a search that came so far, or for the lines
+-- searched anew; or memory ran out, in a search that came so far, or for the lines. Nothing is searched for a name that
+-- is watched, for one watch too many, or where the hits are of the version that was pinned
 pub data DoesWatch (size : ℕ) (watches : List Watched) : Act → Calls → Lines → List Watched → Type 0 where
   WatchedAll : (name : List ℕ) (pattern : PatternTerm) (calls : Calls) (version : ℕ) (hits : List ℕ)
-      (new : IsUnwatched watches name) (few : length watches < 16) (found : FindsHits size pattern calls version hits)
+      (new : IsUnwatched watches name) (few : length watches < MOST_WATCHES)
+      (found : FindsHits size pattern calls version hits)
       → DoesWatch size watches (Watch name pattern) calls (line.Watching version (length hits) ∷ [])
       (watches ++ new_watch name pattern version hits ∷ [])
   WatchLost : (name : List ℕ) (pattern : PatternTerm) (calls : Calls) (want : List Bool) (place : Place)
-      (need : IsNeedOf pattern want) (lookup : LooksUp size want place calls)
+      (new : IsUnwatched watches name) (few : length watches < MOST_WATCHES) (need : IsNeedOf pattern want)
+      (lookup : LooksUp size want place calls)
       → DoesWatch size watches (Watch name pattern) calls (line.MemoryFault ∷ []) watches
   Current : (name : List ℕ) (w : Watched) (slot : ℕ) (named : watch_of name watches ≡ Some w)
       → DoesWatch size watches (ListHits name)
@@ -314,7 +319,7 @@ pub data DoesWatch (size : ℕ) (watches : List Watched) : Act → Calls → Lin
       (map (rebuilt_in name version hits) watches)
   HitsLost : (name : List ℕ) (w : Watched) (calls : Calls) (want : List Bool) (place : Place)
       (named : watch_of name watches ≡ Some w) (need : IsNeedOf w.pattern want)
-      (lookup : LooksUp size want place calls)
+      (lookup : LooksUp size want place calls) (anew : IsAnew w.version lookup.version lookup.pages)
       → DoesWatch size watches (ListHits name) calls (line.MemoryFault ∷ []) watches
   TakenOut : (name : List ℕ) (w : Watched) (named : watch_of name watches ≡ Some w)
       → DoesWatch size watches (Unwatch name) [] (line.Unwatched ∷ []) (without name watches)
@@ -388,16 +393,16 @@ MayFind id name (Say Fault) = Unit {0}
 MayFind id name (FindData own_id own_name) = (own_id ≡ id) × (own_name ≡ name)
 MayFind id name _ = ⊥
 
--- a pattern is watched, where the name is free, fewer than 16 are watched, and a pin is free
+-- a pattern is watched, where the name is free, fewer than the most are watched, and a pin is free
 abbrev pub MayWatch : List Watched → List ℕ → List ℕ → Act → Type 0
 MayWatch watches name text (Say Fault) = Unit {0}
 MayWatch watches name text (Say (Refused (refusals.Pattern fault))) = IsPatternFault text fault
 MayWatch watches name text (Say (Refused refusals.Watch)) =
     (pattern : PatternTerm) × IsPatternOf text pattern × ¬ IsUnwatched watches name
 MayWatch watches name text (Say (Refused refusals.Watches)) =
-    (pattern : PatternTerm) × IsPatternOf text pattern × IsUnwatched watches name × (16 ≤ length watches)
+    (pattern : PatternTerm) × IsPatternOf text pattern × IsUnwatched watches name × (MOST_WATCHES ≤ length watches)
 MayWatch watches name text (Ask event) = (event ≡ events.Pin) × (pattern : PatternTerm) × IsPatternOf text pattern
-    × IsUnwatched watches name × (length watches < 16)
+    × IsUnwatched watches name × (length watches < MOST_WATCHES)
 MayWatch watches name text (Watch own pattern) = (own ≡ name) × IsPatternOf text pattern
 MayWatch watches name text _ = ⊥
 

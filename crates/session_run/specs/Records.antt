@@ -1,10 +1,10 @@
 -- The records of an SD file among the lines of a request, and the data items of a record. For callers.
-use Rattle.std.specs.Prelude.{ℕ, zero, suc, ◌-◌, Bool, true, false, List, [], ◌∷◌, length, drop, take, min, option_map, Option, None, Some, if◌then◌else◌}
+use Rattle.std.specs.Prelude.{ℕ, zero, suc, ◌+◌, ◌-◌, List, [], ◌∷◌, length, drop, take, min, option_map, Option, None, Some, if◌then◌else◌}
 use Rattle.io_edge.specs.Lines.{TextLine, Whole, TooLong}
 use Rattle.mol_finish.specs.declared.fault.Format.{Format}
 use Rattle.mol_finish.specs.declared.fault.Format.TheVariants.{Smiles, Molfile}
 use Rattle.sd_read.specs.Items.{first_named, items_of}
-use Rattle.session_run.specs.Requests.{ends_record, molfile_text}
+use Rattle.session_run.specs.Requests.{ends_record}
 use Rattle.session_run.specs.declared.records.TheConstants.{MOST_COUNTED}
 
 -- the lines of the first record, without its end
@@ -24,16 +24,16 @@ records_in (suc n) [] = None ∷ records_in n []
 records_in (suc n) (line ∷ lines) =
     Some (first_record (line ∷ lines)) ∷ records_in n (behind_record (line ∷ lines))
 
--- a line is too long
-abbrev pub has_long : List TextLine → Bool
-has_long [] = false
-has_long (TooLong ∷ lines) = true
-has_long (Whole line ∷ lines) = has_long lines
+-- how many bytes lines have, each with its LF, whether they are too long or not
+abbrev pub bytes_in : List TextLine → ℕ
+bytes_in [] = 0
+bytes_in (Whole line ∷ lines) = length line + 1 + bytes_in lines
+bytes_in (TooLong size ∷ lines) = size + 1 + bytes_in lines
 
--- how many bytes a record counts: those of its text, and no more than this; where a line is too long, so many
+-- how many bytes a record counts: those of its lines, and no more than this
 abbrev pub counted : Option (List TextLine) → ℕ
 counted None = 0
-counted (Some lines) = if has_long lines then MOST_COUNTED else min (length (molfile_text lines)) MOST_COUNTED
+counted (Some lines) = min (bytes_in lines) MOST_COUNTED
 
 -- the data of the first item of a name in a record's text
 abbrev pub data_of : Format → List ℕ → List ℕ → Option (List ℕ)

@@ -1,6 +1,6 @@
 -- The lines of a script as requests: a line, and with it the lines that it takes: of a molfile, or of records of an SD
 -- file. For callers.
-use Rattle.std.specs.Prelude.{◌≡◌, ◌⊎◌, ℕ, zero, suc, Bool, false, List, [], ◌∷◌, ◌++◌, Contains, codes, if◌then◌else◌}
+use Rattle.std.specs.Prelude.{◌≡◌, ◌⊎◌, ℕ, zero, suc, Bool, true, false, List, [], ◌∷◌, ◌++◌, codes, if◌then◌else◌}
 use Rattle.std.specs.Str.{bytes_eq}
 use Rattle.io_edge.specs.Lines.{TextLine, Whole, TooLong}
 use Rattle.shell_lang.specs.Command as command
@@ -13,12 +13,12 @@ pub record Request : Type 0 where
 -- a molfile stands on the lines after it
 abbrev pub TakesMolfile : TextLine → Type 0
 TakesMolfile (Whole line) = StartsMolfile line
-TakesMolfile TooLong = ⊥
+TakesMolfile (TooLong size) = ⊥
 
 -- so many records of an SD file stand on the lines after it
 abbrev pub TakesRecords : TextLine → ℕ → Type 0
 TakesRecords (Whole line) count = (part : List ℕ) × command.TakesRecords line part count
-TakesRecords TooLong count = ⊥
+TakesRecords (TooLong size) count = ⊥
 
 -- no line after it belongs to it
 pub record IsAlone (line : TextLine) : Type 0 where
@@ -28,7 +28,7 @@ pub record IsAlone (line : TextLine) : Type 0 where
 -- the last line of a molfile
 abbrev pub IsLast : TextLine → Type 0
 IsLast (Whole line) = EndsMolfile line
-IsLast TooLong = ⊥
+IsLast (TooLong size) = ⊥
 
 -- the lines are those of a molfile, up to and with the first that is the last of one, or all; and the rest
 abbrev pub BeginWithMolfile : List TextLine → List TextLine → List TextLine → Type 0
@@ -40,7 +40,7 @@ BeginWithMolfile (line ∷ lines) molfile rest =
 -- the line that ends a record of an SD file
 abbrev pub ends_record : TextLine → Bool
 ends_record (Whole line) = bytes_eq line (codes "$$$$")
-ends_record TooLong = false
+ends_record (TooLong size) = false
 
 -- the lines are those of so many records, each up to and with its end, or all; and the rest
 abbrev pub BeginWithRecords : ℕ → List TextLine → List TextLine → List TextLine → Type 0
@@ -90,12 +90,19 @@ abbrev pub AreAllWhole : List TextLine → List Request → Type 0
 AreAllWhole lines requests = (left : List TextLine) × IsPartOfRequest left
     × ((more : List TextLine) → BeginWithAll (lines ++ more) requests (left ++ more))
 
+-- a line is too long
+abbrev pub has_long : List TextLine → Bool
+has_long [] = false
+has_long (TooLong size ∷ lines) = true
+has_long (Whole line ∷ lines) = has_long lines
+
 -- the line, or a line of its molfile, is too long
 abbrev pub IsLong : Request → Type 0
-IsLong request = (request.line ≡ TooLong) ⊎ (TakesMolfile request.line × Contains request.more TooLong)
+IsLong request =
+    ((size : ℕ) × (request.line ≡ TooLong size)) ⊎ (TakesMolfile request.line × (has_long request.more ≡ true))
 
 -- the text of a molfile: its lines, each with an LF
 abbrev pub molfile_text : List TextLine → List ℕ
 molfile_text [] = []
 molfile_text (Whole line ∷ lines) = line ++ 10 ∷ molfile_text lines
-molfile_text (TooLong ∷ lines) = molfile_text lines
+molfile_text (TooLong size ∷ lines) = molfile_text lines

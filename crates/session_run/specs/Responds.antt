@@ -49,12 +49,12 @@ IsTextChange (molfile.Register id) change =
 IsTextChange (molfile.Revise id) change =
     (change.verb ≡ verbs.Revise) × (change.id ≡ id) × (change.format ≡ Molfile)
 
--- the line of a request whose molfile is lost
-abbrev pub IsLostLine : Result MolfileChange LineRefusal → line.Reply → Type 0
-IsLostLine (Ok change) said = said ≡ line.MemoryFault
-IsLostLine (Err refusal) said = said ≡ line.Refused (refusals.Line refusal)
-
 -- the line of a text without structure. Want of memory is no refusal
 abbrev pub IsTextRefusal : TextFault → line.Reply → Type 0
 IsTextRefusal faults.NoMemory said = said ≡ line.MemoryFault
 IsTextRefusal fault said = said ≡ line.Refused (refusals.Text fault)
+
+-- the line of a request with a molfile of which no text is kept, for this cause
+abbrev pub IsLineWithout : TextFault → Result MolfileChange LineRefusal → line.Reply → Type 0
+IsLineWithout fault (Ok change) said = IsTextRefusal fault said
+IsLineWithout fault (Err refusal) said = said ≡ line.Refused (refusals.Line refusal)

@@ -1,5 +1,5 @@
 -- For private clauses alone: what is taken and kept of the records of an SD file.
-use Rattle.std.specs.Prelude.{◌≡◌, ◌⊎◌, ◌≤◌, ◌<◌, ℕ, suc, ◌+◌, true, false, List, [], ◌∷◌, length, Option, None, Some, Result, IfSome}
+use Rattle.std.specs.Prelude.{◌≡◌, ◌⊎◌, ◌≤◌, ◌<◌, ℕ, suc, ◌+◌, true, false, List, [], ◌∷◌, length, min, Option, None, Some, Result, IfSome}
 use Rattle.std.specs.declared.alloc.Global.{Global}
 use Rattle.std.specs.declared.vec.Vec.{Vec}
 use Rattle.io_edge.specs.Lines.{TextLine}
@@ -9,8 +9,8 @@ use Rattle.store_core.specs.Records.{Shared}
 use Rattle.shell_lang.specs.Reply as line
 use Rattle.session_run.specs.Acts.{Act, AnswersBy, Lines, MayRegister, Refused, Say}
 use Rattle.session_run.specs.Cursors.{Calls}
-use Rattle.session_run.specs.Records.{counted, first_record, has_long}
-use Rattle.session_run.specs.Requests.{ends_record, molfile_text}
+use Rattle.session_run.specs.Records.{bytes_in, counted, first_record}
+use Rattle.session_run.specs.Requests.{ends_record, has_long, molfile_text}
 use Rattle.session_run.specs.declared.records.Kept.{Kept}
 use Rattle.session_run.specs.declared.records.Kept.TheVariants as keeps
 use Rattle.session_run.specs.declared.records.Part.{Part}
@@ -22,7 +22,8 @@ use Rattle.session_run.specs.declared.records.TheConstants.{MOST_COUNTED, MOST_S
 abbrev pub IsPart : Part → List TextLine → List ℕ → Type 0
 IsPart parts.Text lines text =
     (has_long lines ≡ false) × (text ≡ molfile_text lines) × (length (molfile_text lines) < MOST_COUNTED)
-IsPart parts.Long lines text = has_long lines ≡ true
+IsPart (parts.Long size) lines text =
+    (has_long lines ≡ true) × (size ≡ min (bytes_in lines) MOST_COUNTED)
 IsPart parts.Big lines text = (has_long lines ≡ false) × (MOST_COUNTED ≤ length (molfile_text lines))
 IsPart (parts.Lost size) lines text =
     (has_long lines ≡ false) × (size ≡ length (molfile_text lines)) × (length (molfile_text lines) < MOST_COUNTED)

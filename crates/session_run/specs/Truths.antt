@@ -18,12 +18,15 @@ use Rattle.store_machine.specs.Laws.{IsSound}
 use Rattle.store_machine.specs.Runs.{IsCalm, IsRun, calls_of}
 use Rattle.store_machine.specs.Searches.{End}
 use Rattle.store_machine.specs.Structures.{IsNeedOf, IsScreened}
+use Rattle.store_machine.specs.declared.machine.Change.{Change}
+use Rattle.store_machine.specs.declared.machine.Event.TheVariants.{Commit}
 use Rattle.store_machine.specs.declared.machine.History.{History}
 use Rattle.store_machine.specs.declared.machine.Found.{Found}
+use Rattle.store_machine.specs.declared.machine.Reply.TheVariants.{Committed}
 use Rattle.store_machine.specs.declared.machine.State.{State}
 use Rattle.store_machine.specs.declared.machine.Step.{Step}
-use Rattle.store_machine.specs.Told.{IsTold}
-use Rattle.session_run.specs.Acts.{Lines, Searches}
+use Rattle.store_machine.specs.Told.{IsCommit, IsTold}
+use Rattle.session_run.specs.Acts.{Lines, RequestAnswer, Searches}
 use Rattle.session_run.specs.Cursors.{Calls}
 use Rattle.session_run.specs.Dialogue.{AreExchanged, AreListed, AreTurned, Exchange, GivePage, IsCommand, IsShown, StaysOpen, StaysWatched, hits_in, likes_in}
 use Rattle.session_run.specs.Served.{IsServed}
@@ -57,8 +60,9 @@ SearchesAreHits =
     → (listed : Searches size pattern its lines) → listed.place ≡ End
     → AreAllHits t.history listed.version pattern listed.tried listed.hits × IsUpToDate t.history before listed.version
 
--- what was listed for the text of a pattern, with the numbers of its end
+-- what was listed for the text of a pattern, with the numbers of its end, at a version of the history
 pub record IsTrueList (h : History) (text : List ℕ) (version tried count : ℕ) (hits : List ℕ) : Type 0 where
+  pub within : version ≤ head h
   pub pattern : PatternTerm
   pub is : IsPatternOf text pattern
   pub all : AreAllHits h version pattern tried hits
@@ -116,9 +120,10 @@ pub record AreSames (h : History) (text : List ℕ) (version : ℕ) (ids : List 
   pub structure : IsStructureOf text molecule
   pub are : AreAnswers (IsSameAs molecule) h version ids
 
--- what was listed as the same as the structure of a text, with the numbers of its end: so many records have in their
--- print that of the structure
+-- what was listed as the same as the structure of a text, with the numbers of its end, at a version of the history: so
+-- many records have in their print that of the structure
 pub record IsTrueSameList (h : History) (text : List ℕ) (version tried count : ℕ) (hits : List ℕ) : Type 0 where
+  pub within : version ≤ head h
   pub same : AreSames h text version hits
   pub print : List Bool
   pub print_is : IsPrint same.molecule print
@@ -143,20 +148,22 @@ pub record AreFoundSame (h : History) (before : List Exchange) (text : List ℕ)
   pub no_older : (v : ℕ) → IsShown before v → v ≤ version
   pub same : AreSames h text version ids
 
--- Each `register-new` that was accepted found nothing that is the same, and each that was refused for what is the same
--- named the least
+-- Each `register-new` that was accepted found nothing that is the same at a version before its commit, and each that was
+-- refused for what is the same named the least
 abbrev pub RegistrationsAreTrue : History → List Exchange → Type 0
 RegistrationsAreTrue h exchanges =
     (before after : List Exchange) (x : Exchange) (id : ℕ) (text : List ℕ)
     → exchanges ≡ before ++ x ∷ after → IsCommand x.request (command.RegisterNew id text)
-    → ((v : ℕ) → Contains x.lines (line.Accepted v) → AreFoundSame h before text [])
+    → ((v : ℕ) → Contains x.lines (line.Accepted v)
+    → (found : AreFoundSame h before text []) × (found.version < v))
     × ((same : ℕ) → Contains x.lines (line.Refused (refusals.Same same))
     → (more : List ℕ) × AreFoundSame h before text (same ∷ more))
 
--- what was listed as most similar to the print of the structure of a text, with the numbers of its end: the best of all
--- that are live, each with the bits in both prints and those in at least one
+-- what was listed as most similar to the print of the structure of a text, with the numbers of its end, at a version of
+-- the history: the best of all that are live, each with the bits in both prints and those in at least one
 pub record IsTrueSimilarList (h : History) (p q k : ℕ) (text : List ℕ) (version scored count : ℕ) (likes : List Offer)
     : Type 0 where
+  pub within : version ≤ head h
   pub molecule : Molecule
   pub structure : IsStructureOf text molecule
   pub print : List Bool
@@ -176,8 +183,9 @@ SimilarsAreTrue h exchanges =
     → IsTrueSimilarList h p q k text version scored count (likes_in x.lines)
     × ((v : ℕ) → IsShown before v → v ≤ version)
 
--- what was found of a pattern that is watched, for its text: the hits at a version, and their number
+-- what was found of a pattern that is watched, for its text: the hits at a version of the history, and their number
 pub record IsTrueWatch (h : History) (text : List ℕ) (version count : ℕ) (hits : List ℕ) : Type 0 where
+  pub within : version ≤ head h
   pub pattern : PatternTerm
   pub is : IsPatternOf text pattern
   pub are : AreHits h version pattern hits
@@ -204,8 +212,27 @@ WatchesAreTrue h exchanges =
     → IsTrueWatch h text version count (hits_in y.lines)
     × ((v : ℕ) → IsShown (before ++ x ∷ between) v → v ≤ version)
 
--- every search, cursor, lookup and watch of the dialogue, by pages of a size, told what the history has
+-- A request that was answered by these lines made a change as commit v: the calls by which it may be answered so have
+-- one that did
+pub record IsMadeBy (size : ℕ) (x : Exchange) (c : Change) (v : ℕ) : Type 0 where
+  pub here : Standing
+  pub then : Standing
+  pub calls : Calls
+  pub answer : RequestAnswer size here x.request calls x.lines then
+  pub before : Calls
+  pub later : Calls
+  pub made : calls ≡ before ++ (Commit c, Committed v) ∷ later
+
+-- each `ok v` of a reply is commit v of the history, and its change is one that the request made
+abbrev pub CommitsAreTrue : History → ℕ → List Exchange → Type 0
+CommitsAreTrue h size exchanges =
+    (before after : List Exchange) (x : Exchange) (v : ℕ)
+    → exchanges ≡ before ++ x ∷ after → Contains x.lines (line.Accepted v)
+    → (c : Change) × IsMadeBy size x c v × IsCommit h v c
+
+-- every commit, search, cursor, lookup and watch of the dialogue, by pages of a size, told what the history has
 pub record AreTrue (h : History) (size : ℕ) (exchanges : List Exchange) : Type 0 where
+  pub commits : CommitsAreTrue h size exchanges
   pub searches : SearchesAreTrue h exchanges
   pub cursors : CursorsAreTrue h exchanges
   pub pages : PagesAreTrue h size exchanges

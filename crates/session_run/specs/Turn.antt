@@ -1,6 +1,6 @@
 -- For private clauses alone, those of drill_run too: how a source is read on by requests, and what a turn of a session
 -- does.
-use Rattle.std.specs.Prelude.{◌≡◌, ◌≤◌, Bool, Err, ℕ, IsTrue, Ok, Option, None, Result, Some, List, [], ◌∷◌, ◌++◌, Contains, false}
+use Rattle.std.specs.Prelude.{◌≡◌, ◌≤◌, Bool, Err, ℕ, IsTrue, Ok, Option, None, Result, Some, List, [], ◌∷◌, ◌++◌, false}
 use Rattle.std.specs.Io.KnownBytes.{Appends}
 use Rattle.io_edge.specs.Faults.{Rose}
 use Rattle.io_edge.specs.Sink.{AppendsPrefix}
@@ -17,15 +17,13 @@ use Rattle.session_run.specs.Acts.{RequestAnswer}
 use Rattle.session_run.specs.Cursors.{Calls}
 use Rattle.session_run.specs.Made.{Did, WornIn}
 use Rattle.session_run.specs.Records.{records_in}
-use Rattle.session_run.specs.Requests.{Request, BeginWith, BeginWithMolfile, BeginWithRecords, HasNoEnd, IsLong, molfile_text}
-use Rattle.session_run.specs.Taken.{AreTaken, IsOne, IsRecordPart, record_of}
+use Rattle.session_run.specs.Requests.{Request, BeginWith, BeginWithMolfile, BeginWithRecords, HasNoEnd, IsLong}
+use Rattle.session_run.specs.Taken.{AreTaken, IsOne, IsPart, IsRecordPart, record_of}
 use Rattle.session_run.specs.Watching.{Standing}
 use Rattle.session_run.specs.declared.records.Part.{Part}
 use Rattle.session_run.specs.declared.records.SdTexts.{SdTexts}
 use Rattle.session_run.specs.declared.request.Next.{Next}
 use Rattle.session_run.specs.declared.request.Next.TheVariants as nexts
-use Rattle.session_run.specs.declared.request.Molfile.{Molfile}
-use Rattle.session_run.specs.declared.request.Molfile.TheVariants as molfiles
 use Rattle.session_run.specs.declared.settings.EndStatus.{EndStatus}
 use Rattle.session_run.specs.declared.settings.EndStatus.TheVariants.{Done, SourceFault, SinkFault, NoMemory, InputTooLong, Worn}
 
@@ -36,7 +34,7 @@ end_by line_faults.TooLong = InputTooLong
 -- nothing was read
 pub record IsFresh (reading : Reading) : Type 0 where
   pub none : reading.pending ≡ []
-  pub short : reading.long ≡ false
+  pub short : reading.dropped ≡ 0
   pub untaken : reading.taken ≡ 0
   pub unended : reading.ended ≡ false
 
@@ -63,7 +61,8 @@ ReadsLines old new before after P =
 abbrev pub IsNextLine : Reading → Reading → Option (List ℕ) → Option (List ℕ) → Result Line LineFault → Type 0
 IsNextLine old new before after (Ok one.Text) =
     ReadsLines old new before after (λ all left. all ≡ Whole new.text ∷ left)
-IsNextLine old new before after (Ok one.Long) = ReadsLines old new before after (λ all left. all ≡ TooLong ∷ left)
+IsNextLine old new before after (Ok (one.Long size)) =
+    ReadsLines old new before after (λ all left. all ≡ TooLong size ∷ left)
 IsNextLine old new before after (Ok one.End) =
     ReadsLines old new before after (λ all left. (all ≡ []) × (left ≡ []))
 IsNextLine old new before after (Err fault) =
@@ -90,20 +89,6 @@ abbrev pub TakesMolfileLines : Reading → Reading → Option (List ℕ) → Opt
 TakesMolfileLines old new before after molfile =
     ReadsLines old new before after (λ lines left. BeginWithMolfile lines molfile left)
 
--- what was taken of a molfile is its text, unless a line is too long or no memory was left for it
-abbrev pub IsMolfile : Molfile → List TextLine → List ℕ → Type 0
-IsMolfile molfiles.Text molfile text = (text ≡ molfile_text molfile) × ¬ Contains molfile TooLong
-IsMolfile molfiles.Long molfile text = Contains molfile TooLong
-IsMolfile molfiles.Lost molfile text = ¬ Contains molfile TooLong
-
--- a line was added to what was taken of a molfile
-abbrev pub AddsLine : Molfile → List ℕ → List ℕ → Molfile → List ℕ → Type 0
-AddsLine molfiles.Text line text molfiles.Text text' = text' ≡ text ++ line ++ 10 ∷ []
-AddsLine molfiles.Text line text molfiles.Lost text' = Unit {0}
-AddsLine molfiles.Long line text molfiles.Long text' = Unit {0}
-AddsLine molfiles.Lost line text molfiles.Lost text' = Unit {0}
-AddsLine before line text after text' = ⊥
-
 -- The lines of a record were the next, of which this was taken. Where the input's end was met, no line is left
 pub record TakesRecord (old new : Reading) (before after : Option (List ℕ)) (part : Option Part) (text : List ℕ)
     (ended : Bool) : Type 0 where
@@ -125,7 +110,7 @@ IsNext nexts.Long request line text records = IsLong request
 IsNext nexts.Line request line text records = (request ≡ record { line = Whole line; more = [] }) × ¬ TakesLines line
 IsNext (nexts.WithMolfile read molfile) request line text records =
     (first : List ℕ) × (request.line ≡ Whole first) × StartsMolfile first × IsLine first (molfile_command read)
-    × IsMolfile molfile request.more text
+    × IsPart molfile request.more text
 IsNext (nexts.WithRecords count read) request line text records =
     (first part : List ℕ) × (request.line ≡ Whole first) × TakesRecords first part count
     × IsLine first (records_command count read) × AreTaken (records_in count request.more) records

@@ -1,6 +1,7 @@
-//! The records of an SD file that a line takes: their texts, or why a record has none.
-ghost use Rattle.std.specs.Prelude.{◌≡◌, ◌≤◌, ◌<◌, ◌++◌, ◌∷◌, [], ◌*◌, ◌+◌, length, List, OnErr, OnOk, Option, slice_get, ℕ};
-ghost use Rattle.io_edge.specs.Lines.{TextLine, Whole};
+//! The texts of the molfiles and records that a line takes, or why one has none.
+//! No more bytes of a text are kept than a text with a structure may have, and none of a line that is too long.
+ghost use Rattle.std.specs.Prelude.{◌≡◌, ◌≤◌, ◌<◌, ◌++◌, ◌∷◌, [], ◌*◌, ◌+◌, length, List, min, OnErr, OnOk, Option, slice_get, Some, ℕ};
+ghost use Rattle.io_edge.specs.Lines.{TextLine, TooLong, Whole};
 ghost use Rattle.session_run.specs.Records.{counted};
 ghost use Rattle.session_run.specs.Taken.{AreTaken, IsKept, IsPart, IsRecordPart};
 ghost use Rattle.session_run.specs.Transcript.{IsPrefixOf};
@@ -17,13 +18,13 @@ pub const MOST_SD_BYTES: u64 = 67_108_864;
 /// The most bytes that one of them counts: one more than a text with a structure may have.
 pub const MOST_COUNTED: u64 = 262_145;
 
-/// What was taken of a record.
+/// What was taken of the lines of a molfile or of a record.
 #[derive(Clone, Copy, Debug, PartialEq, Eq)]
 pub enum Part {
     /// Its text.
     Text,
-    /// No text: a line of it is too long.
-    Long,
+    /// No text: a line of it is too long. Its lines count so many bytes.
+    Long { size: u64 },
     /// No text: it has more bytes than a text with a structure may have.
     Big,
     /// No text of so many bytes: memory ran out, or none is wanted.
@@ -55,9 +56,46 @@ impl Part {
                 }
                 Part::Lost { size }
             }
-            Part::Long => Part::Long,
+            Part::Long { size } => Part::Long {
+                size: with_bytes(size, line.len() as u64),
+            },
             Part::Big => Part::Big,
         }
+    }
+
+    /// With a line more that is too long, of `size` bytes.
+    pub fn with_long(self, size: u64, text: &[u8]) -> Part
+        requires { (lines : List TextLine) × IsPart self lines text.now }
+        ensures { (lines : List TextLine) (any : List ℕ) → IsPart self lines text.now
+            → IsPart result (lines ++ TooLong size ∷ []) any }
+    {
+        Part::Long {
+            size: with_bytes(self.bytes(text), size),
+        }
+    }
+
+    // How many bytes its lines count.
+    fn bytes(self, text: &[u8]) -> u64
+        ensures { (lines : List TextLine) → IsPart self lines text.now → result ≡ counted (Some lines) }
+    {
+        match self {
+            Part::Text => text.len() as u64,
+            Part::Long { size } => size,
+            Part::Big => MOST_COUNTED,
+            Part::Lost { size } => size as u64,
+        }
+    }
+}
+
+// How many bytes are counted with a line more, of `size` bytes and an LF.
+fn with_bytes(before: u64, size: u64) -> u64
+    requires { before ≤ MOST_COUNTED }
+    ensures { result ≡ min (before + size + 1) MOST_COUNTED }
+{
+    if size < MOST_COUNTED - before {
+        before + size + 1
+    } else {
+        MOST_COUNTED
     }
 }
 
@@ -75,9 +113,7 @@ fn part_bytes(part: Option<Part>, text: &[u8]) -> u64
 {
     match part {
         None => 0,
-        Some(Part::Text) => text.len() as u64,
-        Some(Part::Long | Part::Big) => MOST_COUNTED,
-        Some(Part::Lost { size }) => size as u64,
+        Some(part) => part.bytes(text),
     }
 }
 
@@ -101,7 +137,7 @@ fn kept_of(part: Option<Part>, total: u64) -> Kept
         None => Kept::Refused(Refusal::SdCut),
         Some(_) if total > MOST_SD_BYTES => Kept::Refused(Refusal::SdLimit),
         Some(Part::Text) => Kept::Text,
-        Some(Part::Long) => Kept::Refused(Refusal::Long),
+        Some(Part::Long { .. }) => Kept::Refused(Refusal::Long),
         Some(Part::Big) => { Kept::Refused(Refusal::Text(TextFault::Molfile(MolfileFault::Limit))) }
         Some(Part::Lost { .. }) => Kept::Lost,
     }

@@ -7,10 +7,10 @@ ghost use Rattle.session_run.specs.Requests.{HasNoEnd, HasNoLast, IsPartOfReques
 ghost use Rattle.session_run.specs.Taken.{AreTaken, IsPart};
 ghost use Rattle.shell_lang.specs.declared.command.TheConstants.{MOST_SD_RECORDS};
 ghost use Rattle.io_edge.specs.NextLine.{OnLine};
-ghost use Rattle.session_run.specs.Turn.{AddsLine, IsMolfile, IsNextLine, ReadsOn, Takes, TakesMolfileLines, TakesPart, TakesRecord, TakesRecordLines};
+ghost use Rattle.session_run.specs.Turn.{IsNextLine, ReadsOn, Takes, TakesMolfileLines, TakesPart, TakesRecord, TakesRecordLines};
 ghost use Rattle.session_run.specs.declared.request.Next.TheVariants as next;
 
-use crate::records::{Part, SdTexts, push_line};
+use crate::records::{Part, SdTexts};
 use io_edge::{Line, LineFault, Lines, Source};
 use sd_read::is_record_end;
 use shell_lang::{LineRefusal, MolfileChange, TakenLines, ends_molfile, taken_lines};
@@ -27,24 +27,13 @@ pub enum Next {
     /// A line that takes a molfile, by what it asks for or why it is no command, and the molfile.
     WithMolfile {
         read: Result<MolfileChange, LineRefusal>,
-        molfile: Molfile,
+        molfile: Part,
     },
     /// A line that takes so many records, by their first identifier or why it is no command.
     WithRecords {
         count: u32,
         first: Result<u32, LineRefusal>,
     },
-}
-
-/// What was taken of a molfile.
-#[derive(Clone, Copy, Debug, PartialEq, Eq)]
-pub enum Molfile {
-    /// Its text.
-    Text,
-    /// No text: a line of it is too long.
-    Long,
-    /// No text: memory ran out.
-    Lost,
 }
 
 /// Reads the next request. The text of its molfile is then in `text`, and its records are in `records`.
@@ -67,7 +56,7 @@ pub fn next_request<I: Source>(
 {
     match read_line(lines, source)? {
         Line::End => Ok(Next::End),
-        Line::Long => Ok(Next::Long),
+        Line::Long { .. } => Ok(Next::Long),
         Line::Text => match taken_lines(lines.text()) {
             None => Ok(Next::Line),
             Some(TakenLines::Molfile(read)) => {
@@ -96,14 +85,15 @@ fn read_line<I: Source>(lines: &mut Lines, source: &mut I) -> Result<Line, LineF
     lines.next_line(source)
 }
 
-// Takes the lines of a molfile, up to and with the first that ends one or to the input's end.
+// Takes the lines of a molfile, up to and with the first that ends one or to the input's end. No more bytes of its text
+// are kept than a text with a structure may have.
 fn take_molfile<I: Source>(
     lines: &mut Lines,
     text: &mut Vec<u8>,
     source: &mut I,
-) -> Result<Molfile, LineFault>
+) -> Result<Part, LineFault>
     requires within { lines.old.taken ≤ lines.old.limit }
-    ensures taken { IfOk result (λ taken. (molfile : List TextLine) × IsMolfile taken molfile text.new.items
+    ensures taken { IfOk result (λ part. (molfile : List TextLine) × IsPart part molfile text.new.items
         × TakesMolfileLines lines.old lines.new (I.left source.old) (I.left source.new) molfile) }
     ensures part { OnErr result (TakesPart lines.old lines.new (I.left source.old) (I.left source.new) HasNoLast) }
     ensures reads { ReadsOn (I.left source.old) (I.left source.new) (I.faults source.old)
@@ -112,34 +102,18 @@ fn take_molfile<I: Source>(
     ensures too_long { result ≡ Err LineFault.TooLong → lines.new.taken ≡ lines.new.limit }
 {
     text.clear();
-    let mut taken = Molfile::Text;
+    let mut part = Part::Text;
     loop {
         match read_line(lines, source)? {
-            Line::End => return Ok(taken),
-            Line::Long => taken = Molfile::Long,
+            Line::End => return Ok(part),
+            Line::Long { size } => part = part.with_long(size, text),
             Line::Text => {
-                taken = with_line(taken, lines.text(), text);
+                part = part.with_line(lines.text(), text);
                 if ends_molfile(lines.text()) {
-                    return Ok(taken);
+                    return Ok(part);
                 }
             }
         }
-    }
-}
-
-// Adds a line to a molfile.
-fn with_line(taken: Molfile, line: &[u8], text: &mut Vec<u8>) -> Molfile
-    ensures { AddsLine taken line.now text.old.items result text.new.items }
-{
-    match taken {
-        Molfile::Text => {
-            if push_line(line, text).is_ok() {
-                Molfile::Text
-            } else {
-                Molfile::Lost
-            }
-        }
-        Molfile::Long | Molfile::Lost => taken,
     }
 }
 
@@ -202,7 +176,7 @@ fn take_record<I: Source>(
     loop {
         match read_line(lines, source)? {
             Line::End => return Ok((if some { Some(part) } else { None }, true)),
-            Line::Long => part = Part::Long,
+            Line::Long { size } => part = part.with_long(size, text),
             Line::Text => {
                 if is_record_end(lines.text()) {
                     return Ok((Some(part), false));

@@ -8,26 +8,29 @@ ghost use Rattle.session_run.specs.Acts.{Allows, RequestAnswer, Responds};
 ghost use Rattle.session_run.specs.Made.{AnsweredBy};
 ghost use Rattle.session_run.specs.Opened.{opened};
 ghost use Rattle.session_run.specs.Requests.{Request};
-ghost use Rattle.session_run.specs.Responds.{IsFit, IsLostLine, IsReady, IsTextChange};
+ghost use Rattle.session_run.specs.Responds.{IsFit, IsLineWithout, IsReady, IsTextChange};
 ghost use Rattle.session_run.specs.Standings.{standing_of};
 ghost use Rattle.session_run.specs.Turn.{IsNext};
 ghost use Rattle.session_run.specs.declared.request.Next.TheVariants as next;
 
-use crate::commands::{TextChange, Verb, change_text, commit, compact, prune, show, stats};
+use crate::commands::{
+    TextChange, Verb, change_text, commit, compact, prune, refuse_text, show, stats,
+};
 use crate::cursors::Cursors;
 use crate::items::find_data;
 use crate::listing::ROOM;
 use crate::lookups::{register_new, same, similar};
 use crate::matching::Matching;
-use crate::records::SdTexts;
-use crate::request::{Molfile, Next};
+use crate::records::{Part, SdTexts};
+use crate::request::Next;
 use crate::say::say;
 use crate::sd::register_sd;
 use crate::settings::Settings;
 use crate::stop::Stop;
 use crate::watches::{hits, unwatch, watch};
 use lookup::Similarity;
-use mol_finish::Format;
+use mol_finish::{Format, TextFault};
+use molfile_read::MolfileFault;
 use par_search::Meter;
 use shell_lang::{Command, LineRefusal, MolfileChange, Refusal, Reply, read_command};
 use std::alloc::{AllocError, Global};
@@ -254,7 +257,7 @@ impl Responder {
         &mut self,
         service: &mut S,
         read: Result<MolfileChange, LineRefusal>,
-        molfile: Molfile,
+        molfile: Part,
     ) -> Result<(), Stop>
         requires { (line : List ℕ) × StartsMolfile line × IsLine line (molfile_command read) }
         ensures answered { (request : Request) (line : List ℕ)
@@ -265,9 +268,15 @@ impl Responder {
         ensures cursors { self.new.cursors ≡ self.old.cursors }
     {
         match molfile {
-            Molfile::Long => say(&Reply::Refused(Refusal::Long), &mut self.out),
-            Molfile::Lost => say(&line_without_text(read), &mut self.out),
-            Molfile::Text => match read {
+            Part::Long { .. } => say(&Reply::Refused(Refusal::Long), &mut self.out),
+            Part::Big => {
+                let limit = TextFault::Molfile(MolfileFault::Limit);
+                say(&line_without_text(read, limit), &mut self.out)
+            }
+            Part::Lost { .. } => {
+                say(&line_without_text(read, TextFault::NoMemory), &mut self.out)
+            }
+            Part::Text => match read {
                 Ok(change) => {
                     let change = text_change(change);
                     change_text(
@@ -338,12 +347,12 @@ impl Responder {
     }
 }
 
-// The line of a request whose molfile is lost.
-fn line_without_text(read: Result<MolfileChange, LineRefusal>) -> Reply
-    ensures { IsLostLine read (reply_of result) }
+// The line of a request with a molfile of which no text is kept, for a cause.
+fn line_without_text(read: Result<MolfileChange, LineRefusal>, fault: TextFault) -> Reply
+    ensures { IsLineWithout fault read (reply_of result) }
 {
     match read {
-        Ok(_) => Reply::MemoryFault,
+        Ok(_) => refuse_text(fault),
         Err(refusal) => Reply::Refused(Refusal::Line(refusal)),
     }
 }

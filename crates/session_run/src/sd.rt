@@ -26,7 +26,11 @@ use watch_list::Watches;
 // What making a record answered.
 type Made = Result<Arc<Record>, TextFault>;
 
-/// Registers records under identifiers from the first on, and answers each by one line.
+// No reply to a record is longer.
+const LONGEST_REPLY: usize = 40;
+
+/// Registers records under identifiers from the first on, and answers each by one line. Room for all these lines is
+/// taken before the first commit: if there is none, nothing is committed.
 pub fn register_sd<R: Threads + Sync, S: Service>(
     rt: &R,
     watches: &mut Watches,
@@ -43,6 +47,9 @@ pub fn register_sd<R: Threads + Sync, S: Service>(
         (Responds size (λ act. act ≡ RegisterEach first records) (both cursors (watched_all watches.old.watches)))
         out.old.items out.new.items (both cursors (watched_all watches.new.watches)) result }
 {
+    if out.reserve(count as usize * LONGEST_REPLY).is_err() {
+        return Err(Stop::NoMemory);
+    }
     let made = read_all(rt, first, texts);
     let mut answers = made.into_iter();
     let mut place = 0;

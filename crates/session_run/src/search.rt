@@ -21,9 +21,8 @@ use std::alloc::Global;
 use std::thread::Threads;
 use store_core::Service;
 
-/// Begins a search for a pattern, at the head, by single pages and by batches of at most this many. Without batches, as
-/// for a cursor, all workers share each page. A batch of one page is matched by one worker, and a larger one by all but
-/// one, beside a thread that fetches.
+/// Begins a search for a pattern, at the head, by single pages and by batches of at most this many. All workers share
+/// the records of each page of a cursor, and those of the pages of a batch.
 pub fn begin<S: Service>(
     alloc: Global,
     service: &mut S,
@@ -38,8 +37,14 @@ pub fn begin<S: Service>(
     ensures begun { IfOk result (λ walk. HasBegun pattern settings.now.page walk.search) }
     ensures new { IfOk result (λ walk. IsNew walk) }
 {
-    let workers = workers_for(settings, most);
-    match Search::start_batched(alloc, service, pattern, workers, settings.page, most) {
+    match Search::start_batched(
+        alloc,
+        service,
+        pattern,
+        settings.workers,
+        settings.page,
+        most,
+    ) {
         Ok(search) => Ok(Walk {
             search,
             tried: 0,
@@ -49,26 +54,13 @@ pub fn begin<S: Service>(
     }
 }
 
-// How many workers match in a search by batches of at most this many pages.
-fn workers_for(settings: &Settings, most: u32) -> u32
-    requires { 1 ≤ settings.now.workers }
-    ensures some { 1 ≤ result }
-    ensures few { result ≤ settings.now.workers }
-{
-    match most {
-        0 => settings.workers,
-        1 => 1,
-        _ => (settings.workers - 1).max(1),
-    }
-}
-
-/// How many pages are searched together: as many as may be with three workers or more, of which one fetches. One worker
-/// searches each page right behind its fetch, while its records are near, and two work as one does.
+/// How many pages are searched together: as many as may be with two workers or more. One worker searches each page
+/// right behind its fetch, while its records are near.
 pub fn pages_together(settings: &Settings) -> u32
     ensures some { 1 ≤ result }
     ensures few { result ≤ MOST_PAGES }
 {
-    if settings.workers > 2 { MOST_PAGES } else { 1 }
+    if settings.workers > 1 { MOST_PAGES } else { 1 }
 }
 
 /// The line where no search began.

@@ -1,8 +1,8 @@
 -- A commit on two disks, as a step of the machine.
-use Rattle.std.proofs.Common.{◌≡◌, ◌⊎◌, ◌+◌, ◌≤◌, ◌∙◌, ap, arith, Err, false, inl, inr, IsErrAnd, length, length-append, List, [], ◌∷◌, None, Ok, Option, option_map, refl, Result, Some, subst, sym, true, ℕ}
+use Rattle.std.proofs.Common.{◌≡◌, ◌⊎◌, ◌+◌, ◌≤◌, ◌∙◌, ap, arith, Bool, Err, false, inl, inr, IsErrAnd, length, length-append, List, [], ◌∷◌, None, Ok, Option, option_map, refl, Result, Some, subst, sym, true, ℕ}
 use Rattle.disk_edge.specs.Disk as disk
 use Rattle.disk_edge.specs.Disk.{DiskModel}
-use Rattle.disk_pair.specs.Gives.{AppendGives, EndsOlder, OnFault}
+use Rattle.disk_pair.specs.Gives.{AppendGives, DoubtAfter, EndsOlder, OnFault}
 use Rattle.disk_pair.specs.Pairs.{History as Written, MayShow as PairMayShow, PairOpens, PairOpensTo as PairMayOpen, State as PairState, with_commit}
 use Rattle.disk_pair.specs.Stands.{StandsFor as StandsOnDisks}
 use Rattle.disk_pair.specs.Term.{AtEachPair, Goes, OfEachPair, Paired, disk_a, disk_b, progress_of}
@@ -28,12 +28,13 @@ use Rattle.store_machine.specs.declared.machine.Reply.{Reply}
 use Rattle.store_machine.specs.declared.machine.Reply.TheVariants as reply
 use Rattle.store_machine.specs.declared.machine.State.{State}
 use Rattle.store_disk.specs.Copies.{queued}
-use Rattle.store_disk.specs.OnDisk.{CopyTerm, Follow, HasCopy, HasHeader, IfBothTold, IsPayload, IsReady, StandsFor, StoreTerm, on_pair, whole_copy}
+use Rattle.store_disk.specs.OnDisk.{AreKnown, CopyTerm, Follow, HasCopy, HasHeader, IfBothTold, IsPayload, IsReady, StandsFor, StoreTerm, on_pair, whole_copy}
 use Rattle.store_disk.specs.Payloads.{payload}
 use Rattle.store_disk.specs.Faults.{commit_fault}
 use Rattle.store_disk.specs.Stored.{Shows, Stretches, times, told-before}
 use Rattle.store_disk.proofs.Bounds.{rose}
 use Rattle.store_disk.proofs.Copies.{follow-more, has-more, header-more}
+use Rattle.store_disk.proofs.Doubts.{no-finish, told-known}
 use Rattle.store_disk.proofs.Lifts.{one-call, sound-after, step_of, still-call}
 use Rattle.store_disk.proofs.OnDisks.{after-commit, shown-after, shown-with}
 use Rattle.store_disk.proofs.Steps.{all}
@@ -60,6 +61,7 @@ module _ {D : Type 0} (model : DiskModel D)
     pair = h.pair;
     copy = h.copy;
     copied = h.copied;
+    doubts = h.doubts;
     counts = h.counts;
   }
 
@@ -120,7 +122,7 @@ module _ {D : Type 0} (model : DiskModel D) (law : RunsStaySound) (heads : Rebas
   shows t r x y (w, inr is, opens) = (
     _,
     s.generation,
-    inr (change_of c, refl, may, refl, refl),
+    inr (inl (change_of c, refl, may, refl, refl)),
     shown-with law heads store.memory s h.memory (change_of c) may x y
         (subst (λ (v : Written). PairOpens v x y)
         (is ∙ ap (λ (q : List ℕ). with_commit (on_pair s).now q) written) opens),
@@ -130,10 +132,10 @@ module _ {D : Type 0} (model : DiskModel D) (law : RunsStaySound) (heads : Rebas
   step : (t : State) (r : Reply) → t.faults ≡ faults → CommitGives s (change_of c) r t
       → memory.StandsFor m (served t) → t.serves ≡ true → HasCopy t.history t.copy copies
       → HasHeader t.generation t.history copies (progress_of store.pair.other)
-      → (on_pair t).now.header ≡ (on_pair s).now.header
+      → (on_pair t).now.header ≡ (on_pair s).now.header → AreKnown pair t.doubt t.finish
       → IfBothTold model pair (StandsOnDisks model pair (on_pair t))
       → Calls (Stretches model) all store new s ((event.Commit (change_of c), r) ∷ [])
-  step t r counts row stands serving has header same disks =
+  step t r counts row stands serving has header same known disks =
       let e = event.Commit (change_of c) in
       let gives : Gives s 0 e r t = (
         (
@@ -156,16 +158,18 @@ module _ {D : Type 0} (model : DiskModel D) (law : RunsStaySound) (heads : Rebas
         pair = disks;
         copy = has;
         copied = subst (HasHeader t.generation t.history copies) (sym progress) header;
+        doubts = known;
         counts = counts;
       })
       goes_a.past goes_b.past goes_a.untold goes_b.untold (inl tt) (λ other. absurd (other tt))
       (λ l is k it x y i j. shows t r x y (stood (given (on_pair s)) l is k it l is k it x i y j))
 
   pub done : memory.StandsFor m (served (committed s (change_of c)))
-      → copies ≡ option_map (queued p) store.copy → ((t : PairState) → StandsOnDisks model store.pair t
+      → copies ≡ option_map (queued p) store.copy → pair.journal.doubt ≡ false
+      → ((t : PairState) → StandsOnDisks model store.pair t
       → StandsOnDisks model pair (record t { now = with_commit t.now p; commit = None; finish = None }))
       → Gone model store new s c (Ok m.version)
-  done ends more disks =
+  done ends more settled disks =
       let told = change_of c in
       let t : State = record (committed s told) { faults = faults } in
       let after = after-commit grow s told h.memory.sound in
@@ -179,7 +183,7 @@ module _ {D : Type 0} (model : DiskModel D) (law : RunsStaySound) (heads : Rebas
       (subst (λ (o : Option CopyTerm). HasHeader s.generation t.history o (progress_of store.pair.other)) (sym is)
       (header-more grow s.history told s.copy past store.copy h.copy s.generation (progress_of store.pair.other)
       h.copied))
-      (ap (λ (x : PairState). x.now.header) after)
+      (ap (λ (x : PairState). x.now.header) after) (no-finish pair None settled)
       (stood (λ stands. subst (StandsOnDisks model pair)
       (ap (λ (q : List ℕ). record (on_pair s) {
         now = with_commit (on_pair s).now q;
@@ -193,14 +197,14 @@ module _ {D : Type 0} (model : DiskModel D) (law : RunsStaySound) (heads : Rebas
     then doubt finish = record s { doubt = doubt; finish = finish; faults = faults }
 
     with-doubts : (doubt : Option Change) (finish : Option ℕ) (r : Reply)
-        → CommitGives s (change_of c) r (then doubt finish)
+        → CommitGives s (change_of c) r (then doubt finish) → AreKnown pair doubt finish
         → IfBothTold model pair (StandsOnDisks model pair (on_pair (then doubt finish)))
         → Calls (Stretches model) all store new s ((event.Commit (change_of c), r) ∷ [])
-    with-doubts doubt finish r row disks =
+    with-doubts doubt finish r row known disks =
         step (then doubt finish) r refl row ends h.memory.serves
         (subst (HasCopy s.history s.copy) (sym still) h.copy)
         (subst (λ (o : Option CopyTerm). HasHeader s.generation s.history o (progress_of store.pair.other)) (sym still)
-        h.copied) refl disks
+        h.copied) refl known disks
 
     -- the doubts that two disks have are ones of the machine
     record Older : Type 0 where
@@ -208,6 +212,7 @@ module _ {D : Type 0} (model : DiskModel D) (law : RunsStaySound) (heads : Rebas
       finish : Option ℕ
       doubt_is : StaysOrEnds s.doubt doubt
       finish_is : StaysOrEnds s.finish finish
+      known : AreKnown pair doubt finish
       disks : IfBothTold model pair (StandsOnDisks model pair (on_pair (then doubt finish)))
 
     commit-of : (o : Option (List ℕ)) → (o ≡ (on_pair s).commit) ⊎ (o ≡ None)
@@ -224,46 +229,64 @@ module _ {D : Type 0} (model : DiskModel D) (law : RunsStaySound) (heads : Rebas
     told e =
         let c = commit-of e.commit e.commit_is in
         let f = finish-of e.finish e.finish_is in
+        let it : StandsOnDisks model pair (on_pair (then c.0 f.0)) = subst (λ (o : Option (List ℕ)).
+        StandsOnDisks model pair (record (on_pair s) { commit = o; finish = option_map (whole_copy s) f.0 })) c.2
+        (subst (λ (o : Option Written).
+        StandsOnDisks model pair (record (on_pair s) { commit = e.commit; finish = o })) f.2 e.stands) in
         record {
           doubt = c.0;
           finish = f.0;
           doubt_is = c.1;
           finish_is = f.1;
-          disks = λ l is k it. subst (λ (o : Option (List ℕ)).
-              StandsOnDisks model pair (record (on_pair s) { commit = o; finish = option_map (whole_copy s) f.0 })) c.2
-              (subst (λ (o : Option Written).
-              StandsOnDisks model pair (record (on_pair s) { commit = e.commit; finish = o })) f.2 e.stands);
+          known = told-known model pair (then c.0 f.0) it;
+          disks = λ l is k too. it;
         }
 
-    -- where a disk does not tell its content, nothing is said of the doubts
-    untold : IfBothTold model pair ⊥ → Older
-    untold never = record {
-      doubt = s.doubt;
-      finish = s.finish;
-      doubt_is = inl refl;
-      finish_is = inl refl;
-      disks = λ l is k it. absurd (never l is k it);
-    }
+    -- the journal is in doubt only where it was
+    abbrev Known : Type 0
+    Known = pair.journal.doubt ≡ true → store.pair.journal.doubt ≡ true
 
-    older-doubts : IfBothTold model pair (EndsOlder (StandsOnDisks model pair) (on_pair s)) → Older
-    older-doubts gives = go (model.content (disk_a pair)) (model.content (disk_b pair)) refl refl
+    -- where a disk does not tell its content, only this is said of the doubts
+    untold : Known → IfBothTold model pair ⊥ → Older
+    untold was never = go pair.journal.doubt refl
+      where
+        go : (doubt : Bool) → pair.journal.doubt ≡ doubt → Older
+        go true is = record {
+          doubt = s.doubt;
+          finish = None;
+          doubt_is = inl refl;
+          finish_is = inr refl;
+          known = no-finish pair s.doubt (is ∙ (sym (was is) ∙ h.doubts.commit));
+          disks = λ l told k it. absurd (never l told k it);
+        }
+        go false is = record {
+          doubt = None;
+          finish = None;
+          doubt_is = inr refl;
+          finish_is = inr refl;
+          known = no-finish pair None is;
+          disks = λ l told k it. absurd (never l told k it);
+        }
+
+    older-doubts : Known → IfBothTold model pair (EndsOlder (StandsOnDisks model pair) (on_pair s)) → Older
+    older-doubts was gives = go (model.content (disk_a pair)) (model.content (disk_b pair)) refl refl
       where
         none-some : {X : Type 0} {x : X} → None ≡ Some x → ⊥
         none-some e = cc e
 
         go : (a b : Option (List ℕ)) → model.content (disk_a pair) ≡ a → model.content (disk_b pair) ≡ b → Older
-        go None b is it = untold (λ l told k too. none-some (sym is ∙ told))
-        go (Some l) None is it = untold (λ n told k too. none-some (sym it ∙ too))
+        go None b is it = untold was (λ l told k too. none-some (sym is ∙ told))
+        go (Some l) None is it = untold was (λ n told k too. none-some (sym it ∙ too))
         go (Some l) (Some k) is it = told (gives l is k it)
 
     older : (r : Reply)
-        → ((t : State) → EndsDoubts s t → t.faults ≡ faults → CommitGives s (change_of c) r t)
+        → ((t : State) → EndsDoubts s t → t.faults ≡ faults → CommitGives s (change_of c) r t) → Known
         → IfBothTold model pair (EndsOlder (StandsOnDisks model pair) (on_pair s))
         → Calls (Stretches model) all store new s ((event.Commit (change_of c), r) ∷ [])
-    older r row gives =
-        let o = older-doubts gives in
+    older r row was gives =
+        let o = older-doubts was gives in
         with-doubts o.doubt o.finish r
-        (row (then o.doubt o.finish) (o.doubt_is, o.finish_is, refl) refl) o.disks
+        (row (then o.doubt o.finish) (o.doubt_is, o.finish_is, refl) refl) o.known o.disks
 
     -- a disk counted a fault, and so does the state
     abbrev Failed : Type 0
@@ -279,19 +302,21 @@ module _ {D : Type 0} (model : DiskModel D) (law : RunsStaySound) (heads : Rebas
 
     pub faulted : (f : PutFault)
         → ((t : PairState) → StandsOnDisks model store.pair t → AppendGives (Err f) (StandsOnDisks model pair) t p)
-        → OnFault (Err f) Failed → Gone model store new s c (Err (commit_fault f))
-    faulted (put.DiskFault true) gives failed =
+        → DoubtAfter (Err f) store.pair.journal.doubt pair.journal.doubt → OnFault (Err f) Failed
+        → Gone model store new s c (Err (commit_fault f))
+    faulted (put.DiskFault true) gives known failed =
         with-doubts (Some (change_of c)) None (reply.DiskFault true)
         (may, some-rose failed (then (Some (change_of c)) None) refl, refl)
+        (no-finish pair (Some (change_of c)) known)
         (stood (λ stands. subst (λ (q : List ℕ). StandsOnDisks model pair (record (on_pair s) {
           commit = Some q;
           finish = None;
         })) written (gives (on_pair s) stands)))
-    faulted (put.DiskFault false) gives failed =
-        older (reply.DiskFault false) (λ t ended counts. (may, some-rose failed t counts, ended))
+    faulted (put.DiskFault false) gives known failed =
+        older (reply.DiskFault false) (λ t ended counts. (may, some-rose failed t counts, ended)) known
         (stood (gives (on_pair s)))
-    faulted put.NoMemory gives failed =
-        older reply.NoMemory (λ t ended counts. ended) (stood (gives (on_pair s)))
+    faulted put.NoMemory gives known failed =
+        older reply.NoMemory (λ t ended counts. ended) known (stood (gives (on_pair s)))
 
 -- what is in memory serves the state after a commit, and the store is ready
 commit-serves : RunsStaySound → (old new : Memory) (s : State) (c : Change) → MayAdd s c → IsServing old s

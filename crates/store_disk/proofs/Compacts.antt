@@ -15,13 +15,18 @@ use Rattle.store_machine.specs.declared.machine.Event.TheVariants.{Compact}
 use Rattle.store_machine.specs.declared.machine.Faults.{Faults}
 use Rattle.store_machine.specs.declared.machine.Reply.{Reply}
 use Rattle.store_machine.specs.declared.machine.State.{State}
-use Rattle.store_disk.specs.Loads.{OpensAfter}
+use Rattle.store_disk.specs.Loads.{OpensAfter, OpensTo}
 use Rattle.store_disk.specs.OnDisk.{IfBothTold, StandsFor, StoreTerm, copy_so_far, on_pair, whole_copy}
-use Rattle.store_disk.specs.Stored.{Stretches, told-before}
+use Rattle.store_disk.specs.Stored.{Shows, Stretches, times, told-before}
 use Rattle.store_disk.proofs.Bounds.{rose}
-use Rattle.store_disk.proofs.Lifts.{one-call}
+use Rattle.store_disk.proofs.Lifts.{one-call, step_of}
 use Rattle.store_disk.proofs.OnDisks.{ends, opens-recovered, shown-after}
 use Rattle.store_disk.proofs.Steps.{all}
+
+-- what two images at a moment of a step of a compaction open to: what may be left before it, or the copy
+abbrev pub CompactShows : State → List ℕ → List ℕ → Type 0
+CompactShows s x y = OpensAfter s x y
+    ⊎ ((version : ℕ) × IsWhole s version × OpensTo (rebase s.history version) (s.generation + 1) x y)
 
 module _ {D : Type 0} (model : DiskModel D) (law : RunsStaySound) (heads : RebasesKeepHeads) (store : StoreTerm D)
     (s : State) (h : StandsFor model store s) (new : StoreTerm D)
@@ -53,21 +58,20 @@ module _ {D : Type 0} (model : DiskModel D) (law : RunsStaySound) (heads : Rebas
   -- what a crash may show of the pair, at each moment of the call
   pub opened : ((t : PairState) → StandsOnDisks model store.pair t
       → AtEachPair model store.pair new.pair (PairMayOpen (PairMayShow t)))
-      → AtEachPair model store.pair new.pair (OpensAfter s)
-  opened given l is k it x i y j = shown-after law heads store.memory s h.memory x y
-      (stood (given (on_pair s)) l is k it l is k it x i y j)
+      → AtEachPair model store.pair new.pair (CompactShows s)
+  opened given l is k it x i y j = inl (shown-after law heads store.memory s h.memory x y
+      (stood (given (on_pair s)) l is k it l is k it x i y j))
 
   -- or the whole copy
   whole-shown : (version : ℕ) → IsWhole s version → (w : Written) → (on_pair s).copy ≡ Some w → (x y : List ℕ)
-      → PairOpens w x y → OpensAfter s x y
+      → PairOpens w x y → CompactShows s x y
   whole-shown version is w copy x y opens =
       let told = sym copy ∙ ap (λ (o : Option Copying). option_map (copy_so_far s) o) is in
-      let same : w ≡ whole_copy s version = some-same told ∙ ends (whole_copy s version) in (
-        rebase s.history version,
-        s.generation + 1,
-        inr (inr (version, inr is, refl, refl)),
+      let same : w ≡ whole_copy s version = some-same told ∙ ends (whole_copy s version) in inr (
+        version,
+        is,
         opens-recovered law heads store.memory s h.memory (rebase s.history version) (s.generation + 1)
-            (inr (inr (version, inr is, refl, refl))) x y (subst (λ (v : Written). PairOpens v x y) same opens),
+            (inr (version, is, (refl, refl))) x y (subst (λ (v : Written). PairOpens v x y) same opens),
       )
     where
       some-same : {a b : Written} → Some a ≡ Some b → a ≡ b
@@ -75,21 +79,31 @@ module _ {D : Type 0} (model : DiskModel D) (law : RunsStaySound) (heads : Rebas
 
   pub opened-whole : (version : ℕ) → IsWhole s version → ((t : PairState) → StandsOnDisks model store.pair t
       → AtEachPair model store.pair new.pair (PairMayOpen (λ w. PairMayShow t w ⊎ (t.copy ≡ Some w))))
-      → AtEachPair model store.pair new.pair (OpensAfter s)
+      → AtEachPair model store.pair new.pair (CompactShows s)
   opened-whole version whole given l is k it x i y j =
       let o = stood (given (on_pair s)) l is k it l is k it x i y j in elim o.1 [
-        | inl older ↦ shown-after law heads store.memory s h.memory x y (o.0, older, o.2)
+        | inl older ↦ inl (shown-after law heads store.memory s h.memory x y (o.0, older, o.2))
         | inr copy ↦ whole-shown version whole o.0 copy x y o.2
       ]
 
+  shows : (t : State) (r : Reply) (x y : List ℕ) → CompactShows s x y
+      → Shows (step_of 0 Compact r s t (times model store) (times model new)) x y
+  shows t r x y (inl left) = (left.0, left.1, inl left.2, left.3)
+  shows t r x y (inr whole) = (
+    rebase s.history whole.0,
+    s.generation + 1,
+    inr (inr (whole.0, refl, whole.1, (refl, refl))),
+    whole.2,
+  )
+
   -- the step
   pub compacted : (t : State) (r : Reply) → CompactGives s r t → StandsFor model new t
-      → AtEachPair model store.pair new.pair (OpensAfter s)
+      → AtEachPair model store.pair new.pair (CompactShows s)
       → Calls (Stretches model) all store new s ((Compact, r) ∷ [])
   compacted t r row after moments =
       one-call model store new s t 0 Compact r refl h (gives-of t r after.counts row) after goes_a.past goes_b.past
       goes_a.untold goes_b.untold (inl tt) (λ other. absurd (other tt))
-      (λ l is k it x y i j. let o = moments l is k it x i y j in (o.0, o.1, inl o.2, o.3))
+      (λ l is k it x y i j. shows t r x y (moments l is k it x i y j))
 
   -- a disk counted a fault, and so does the state
   pub some-rose : disk.Faulted model (disk_a store.pair) (disk_a new.pair)

@@ -2,10 +2,10 @@
 use Rattle.std.proofs.Common.{◌≡◌, ◌⊎◌, ◌∙◌, ap, arith, Bool, Err, false, inl, IsSomeAnd, [], ◌∷◌, None, Ok, Option, option_map, refl, Some, subst, sym, true, ℕ}
 use Rattle.disk_edge.specs.Disk as disk
 use Rattle.disk_edge.specs.Disk.{DiskModel}
-use Rattle.disk_pair.specs.Gives.{FinishGives}
+use Rattle.disk_pair.specs.Gives.{FinishGives, OnDoubt}
 use Rattle.disk_pair.specs.Pairs.{History as Written, MayShow as PairMayShow, PairOpensTo as PairMayOpen, State as PairState}
 use Rattle.disk_pair.specs.Stands.{StandsFor as StandsOnDisks}
-use Rattle.disk_pair.specs.Term.{AtEachPair, Goes, Paired, disk_a, disk_b, progress_of}
+use Rattle.disk_pair.specs.Term.{AtEachPair, Goes, Paired, disk_a, disk_b, is_doubtful, progress_of}
 use Rattle.disk_pair.specs.declared.fault.PutFault.TheVariants as put
 use Rattle.journal_core.specs.declared.header.Header.{Header}
 use Rattle.store_core.specs.Calls.{Calls}
@@ -19,9 +19,10 @@ use Rattle.store_machine.specs.declared.machine.Reply.{Reply}
 use Rattle.store_machine.specs.declared.machine.Reply.TheVariants.{DiskFault, Done, NoMemory}
 use Rattle.store_machine.specs.declared.machine.State.{State}
 use Rattle.store_disk.specs.Items.{counted, left}
-use Rattle.store_disk.specs.OnDisk.{CopyTerm, HasCopy, HasHeader, IfBothTold, Lacks, StandsFor, StoreTerm, copy_so_far, on_pair, whole_copy}
+use Rattle.store_disk.specs.OnDisk.{AreKnown, CopyTerm, HasCopy, HasHeader, IfBothTold, Lacks, StandsFor, StoreTerm, copy_so_far, on_pair, whole_copy}
 use Rattle.store_disk.specs.Stored.{Stretches}
 use Rattle.store_disk.proofs.Compacts.{compacted, gives-of, opened-whole, some-rose, stood}
+use Rattle.store_disk.proofs.Doubts.{no-finish, running-known}
 use Rattle.store_disk.proofs.Lifts.{sound-after}
 use Rattle.store_disk.proofs.OnDisks.{ends}
 use Rattle.store_disk.proofs.Steps.{all}
@@ -58,10 +59,10 @@ module _ {D : Type 0} (model : DiskModel D) (law : RunsStaySound) (heads : Rebas
       → CompactGives s r t → t.history ≡ s.history → t.limit ≡ s.limit → t.pins ≡ s.pins → t.kept ≡ s.kept
       → t.serves ≡ true → HasCopy t.history t.copy copy
       → HasHeader t.generation t.history copy (progress_of pair.other)
-      → pair.journal.header ≡ (on_pair t).now.header
+      → pair.journal.header ≡ (on_pair t).now.header → AreKnown pair t.doubt t.finish
       → IfBothTold model pair (StandsOnDisks model pair (on_pair t))
       → Calls (Stretches model) all store (new copy) s ((Compact, r) ∷ [])
-  step copy t r counts row history limit pins kept serves has copied header disks =
+  step copy t r counts row history limit pins kept serves has copied header known disks =
       let gives = gives-of model law heads store s h (new copy) goes_a goes_b t r counts row in
       compacted model law heads store s h (new copy) goes_a goes_b t r row (record {
         memory = record {
@@ -75,19 +76,20 @@ module _ {D : Type 0} (model : DiskModel D) (law : RunsStaySound) (heads : Rebas
         pair = disks;
         copy = has;
         copied = copied;
+        doubts = known;
         counts = counts;
       }) (opened-whole model law heads store s h (new copy) goes_a goes_b c.version is-whole moments)
 
   -- the copy is what the disks have
   pub finished : (generation : ℕ) → generation ≡ pair.journal.header.generation
-      → pair.journal.header ≡ (whole_copy s c.version).header
+      → pair.journal.header ≡ (whole_copy s c.version).header → pair.journal.doubt ≡ false
       → ((t : PairState) (copy : Written) → StandsOnDisks model store.pair t → t.copy ≡ Some copy
       → FinishGives (Ok tt) (StandsOnDisks model pair) t copy)
       → Calls (Stretches model) all store (new None) s ((Compact, Done generation) ∷ [])
-  finished generation is header disks =
+  finished generation is header settled disks =
       step None (counted model pair (replaced s c.version)) (Done generation) refl
       (is ∙ ap (λ (k : Header). k.generation) header, c.version, is-whole, refl)
-      refl refl refl refl h.memory.serves refl tt header
+      refl refl refl refl h.memory.serves refl tt header (no-finish pair None settled)
       (stood model law heads store s h (new None) goes_a goes_b
       (λ stands. disks (on_pair s) (whole_copy s c.version) stands copy-is))
 
@@ -95,39 +97,50 @@ module _ {D : Type 0} (model : DiskModel D) (law : RunsStaySound) (heads : Rebas
     kept-header : pair.journal.header ≡ (on_pair s).now.header
     kept-header = ap (λ j. j.header) same ∙ h.header
 
+    -- no finish was in doubt beside it
+    known : HasHeader s.generation s.history (Some c) (progress_of store.pair.other) → AreKnown pair s.doubt s.finish
+    known header = running-known store.pair pair s.generation s.history c s.doubt s.finish header
+        (ap (λ j. j.doubt) same) h.doubts
+
     -- it is given up, and its finish is in doubt
-    doubted : disk.Faulted model (disk_a store.pair) (disk_a pair)
+    doubted : is_doubtful pair.other ≡ true → disk.Faulted model (disk_a store.pair) (disk_a pair)
         ⊎ disk.Faulted model (disk_b store.pair) (disk_b pair)
         → ((t : PairState) (copy : Written) → StandsOnDisks model store.pair t → t.copy ≡ Some copy
         → FinishGives (Err (put.DiskFault true)) (StandsOnDisks model pair) t copy)
         → Calls (Stretches model) all store (new None) s ((Compact, DiskFault true) ∷ [])
-    doubted failed disks =
+    doubted doubtful failed disks =
         step None (counted model pair (record s { copy = None; finish = Some c.version })) (DiskFault true) refl
         (some-rose model law heads store s h (new None) goes_a goes_b failed, (c.version, is-whole, refl))
         refl refl refl refl h.memory.serves refl tt kept-header
+        (record { commit = ap (λ j. j.doubt) same ∙ h.doubts.commit; other = λ some. doubtful })
         (stood model law heads store s h (new None) goes_a goes_b
         (λ stands. disks (on_pair s) (whole_copy s c.version) stands copy-is))
 
     -- it is given up
-    failed-sure : disk.Faulted model (disk_a store.pair) (disk_a pair)
+    failed-sure : HasHeader s.generation s.history (Some c) (progress_of store.pair.other)
+        → disk.Faulted model (disk_a store.pair) (disk_a pair)
         ⊎ disk.Faulted model (disk_b store.pair) (disk_b pair)
         → ((t : PairState) (copy : Written) → StandsOnDisks model store.pair t → t.copy ≡ Some copy
         → FinishGives (Err (put.DiskFault false)) (StandsOnDisks model pair) t copy)
         → Calls (Stretches model) all store (new None) s ((Compact, DiskFault false) ∷ [])
-    failed-sure failed disks =
-        step None (counted model pair (record s { copy = None })) (DiskFault false) refl
-        (some-rose model law heads store s h (new None) goes_a goes_b failed, (inl refl, refl))
-        refl refl refl refl h.memory.serves refl tt kept-header
+    failed-sure header failed disks =
+        step None (counted model pair (record s { copy = None })) (DiskFault false) refl (
+          some-rose model law heads store s h (new None) goes_a goes_b failed,
+          (λ none. cc (none, is-whole), inl refl, refl),
+        )
+        refl refl refl refl h.memory.serves refl tt kept-header (known header)
         (stood model law heads store s h (new None) goes_a goes_b
         (λ stands. disks (on_pair s) (whole_copy s c.version) stands copy-is))
 
-    pub faulted-finish : (doubt : Bool) → disk.Faulted model (disk_a store.pair) (disk_a pair)
+    pub faulted-finish : (doubt : Bool) → HasHeader s.generation s.history (Some c) (progress_of store.pair.other)
+        → OnDoubt (Err (put.DiskFault doubt)) (is_doubtful pair.other ≡ true)
+        → disk.Faulted model (disk_a store.pair) (disk_a pair)
         ⊎ disk.Faulted model (disk_b store.pair) (disk_b pair)
         → ((t : PairState) (copy : Written) → StandsOnDisks model store.pair t → t.copy ≡ Some copy
         → FinishGives (Err (put.DiskFault doubt)) (StandsOnDisks model pair) t copy)
         → Calls (Stretches model) all store (new None) s ((Compact, DiskFault doubt) ∷ [])
-    faulted-finish true failed disks = doubted failed disks
-    faulted-finish false failed disks = failed-sure failed disks
+    faulted-finish true header doubtful failed disks = doubted doubtful failed disks
+    faulted-finish false header doubtful failed disks = failed-sure header failed disks
 
     -- it goes on as it was
     pub unfinished : progress_of pair.other ≡ progress_of store.pair.other
@@ -138,6 +151,6 @@ module _ {D : Type 0} (model : DiskModel D) (law : RunsStaySound) (heads : Rebas
     unfinished progress header disks =
         step (Some c) (counted model pair s) NoMemory refl (takes-none s.copy, inl refl, refl)
         refl refl refl refl h.memory.serves l
-        (subst (HasHeader s.generation s.history (Some c)) (sym progress) header) kept-header
+        (subst (HasHeader s.generation s.history (Some c)) (sym progress) header) kept-header (known header)
         (stood model law heads store s h (new (Some c)) goes_a goes_b
         (λ stands. disks (on_pair s) (whole_copy s c.version) stands copy-is))

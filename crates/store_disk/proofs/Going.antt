@@ -182,18 +182,24 @@ module _ {D : Type 0} (model : DiskModel D)
               (model.faults (disk_b new.pair)) t.b.count.count b)
         ]
 
+    runs : s.copy ≡ None → ⊥
+    runs none =
+        let has = has-left s.history (fewer n s.copy) mid.copy (items - n) (t.stands s h).copy t.left in
+        cc (ap (fewer n) none, has.1)
+
     stops : (f : PutFault) → n ≤ ITEMS_A_STEP → ItemGives model (Err f) new (counted model mid.pair (taken n s))
         → OnFault (Err f) (disk.Faulted model (disk_a old.pair) (disk_a new.pair)
         ⊎ disk.Faulted model (disk_b old.pair) (disk_b new.pair))
         → Calls (Stretches model) all old new s (compact_calls (Err (copy_fault f)))
     stops (put.DiskFault doubt) few gives cause =
         compacted model law heads old s h new goes_a goes_b (counted model new.pair (record s { copy = None }))
-        (DiskFault false) (some-rose model law heads old s h new goes_a goes_b cause, (inl refl, refl)) gives
-        (λ l is k it x i y j. shown-after law heads old.memory s h.memory x y (moments s h l is k it x i y j))
+        (DiskFault false)
+        (some-rose model law heads old s h new goes_a goes_b cause, (λ none. absurd (runs none), inl refl, refl)) gives
+        (λ l is k it x i y j. inl (shown-after law heads old.memory s h.memory x y (moments s h l is k it x i y j)))
     stops put.NoMemory few gives cause =
         compacted model law heads old s h new goes_a goes_b (counted model new.pair (taken n s)) NoMemory
         (takes-some n s.copy few, inl refl, refl) gives
-        (λ l is k it x i y j. shown-after law heads old.memory s h.memory x y (moments s h l is k it x i y j))
+        (λ l is k it x i y j. inl (shown-after law heads old.memory s h.memory x y (moments s h l is k it x i y j)))
 
     -- the item was refused
     pub stopped : (f : PutFault) → r ≡ Err f → n ≤ ITEMS_A_STEP
@@ -217,4 +223,5 @@ module _ {D : Type 0} (model : DiskModel D) (law : RunsStaySound) (heads : Rebas
       let row : CompactGives s (More rest) end =
       inr (has.0, items, has.1, some, few, λ i. record end { copy = same i }) in
       compacted model law heads old s h new t.a t.b end (More rest) row (t.stands s h)
-      (λ l is k it x i y j. shown-after law heads old.memory s h.memory x y (t.moments one s h l is k it x i y j))
+      (λ l is k it x i y j.
+      inl (shown-after law heads old.memory s h.memory x y (t.moments one s h l is k it x i y j)))

@@ -132,6 +132,7 @@ module _ (f : Medium → Failures) (same : (d : Medium) → (f d).count ≡ d.fa
       pair = λ l is m it. current-still journal other false (on_pair s) (h.pair l is m it);
       copy = h.copy;
       copied = h.copied;
+      doubts = record { commit = h.doubts.commit; other = h.doubts.other };
       counts = h.counts ∙ (λ i. record { a = sym (same journal.disk) i; b = model.faults (disk_of other) });
     }
     still true journal other true h = record {
@@ -140,6 +141,7 @@ module _ (f : Medium → Failures) (same : (d : Medium) → (f d).count ≡ d.fa
       pair = λ l is m it. current-still journal other true (on_pair s) (h.pair l is m it);
       copy = h.copy;
       copied = h.copied;
+      doubts = record { commit = h.doubts.commit; other = h.doubts.other };
       counts = h.counts ∙ (λ i. record { a = model.faults (disk_of other); b = sym (same journal.disk) i });
     }
     still false journal (Idle disk doubtful) false h = record {
@@ -148,6 +150,7 @@ module _ (f : Medium → Failures) (same : (d : Medium) → (f d).count ≡ d.fa
       pair = λ l is m it. other-still journal (Idle disk doubtful) false (on_pair s) (h.pair l is m it);
       copy = h.copy;
       copied = h.copied;
+      doubts = record { commit = h.doubts.commit; other = h.doubts.other };
       counts = h.counts ∙ (λ i. record { a = model.faults journal.disk; b = sym (same disk) i });
     }
     still false journal (Idle disk doubtful) true h = record {
@@ -156,6 +159,7 @@ module _ (f : Medium → Failures) (same : (d : Medium) → (f d).count ≡ d.fa
       pair = λ l is m it. other-still journal (Idle disk doubtful) true (on_pair s) (h.pair l is m it);
       copy = h.copy;
       copied = h.copied;
+      doubts = record { commit = h.doubts.commit; other = h.doubts.other };
       counts = h.counts ∙ (λ i. record { a = sym (same disk) i; b = model.faults journal.disk });
     }
     still false journal (Copy carry) false h = record {
@@ -164,6 +168,7 @@ module _ (f : Medium → Failures) (same : (d : Medium) → (f d).count ≡ d.fa
       pair = λ l is m it. other-still journal (Copy carry) false (on_pair s) (h.pair l is m it);
       copy = h.copy;
       copied = h.copied;
+      doubts = record { commit = h.doubts.commit; other = h.doubts.other };
       counts = h.counts ∙ (λ i. record { a = model.faults journal.disk; b = sym (same carry.disk) i });
     }
     still false journal (Copy carry) true h = record {
@@ -172,6 +177,7 @@ module _ (f : Medium → Failures) (same : (d : Medium) → (f d).count ≡ d.fa
       pair = λ l is m it. other-still journal (Copy carry) true (on_pair s) (h.pair l is m it);
       copy = h.copy;
       copied = h.copied;
+      doubts = record { commit = h.doubts.commit; other = h.doubts.other };
       counts = h.counts ∙ (λ i. record { a = sym (same carry.disk) i; b = model.faults journal.disk });
     }
 

@@ -4,6 +4,7 @@ mod Commits
 mod Compacts
 mod Copies
 mod Damaged
+mod Doubts
 mod Finishes
 mod Fronts
 mod Goes

@@ -117,5 +117,6 @@ module _ {D : Type 0} (model : DiskModel D) where
       pair = h.pair;
       copy = h.copy;
       copied = h.copied;
+      doubts = h.doubts;
       counts = h.counts;
     })

@@ -9,6 +9,7 @@ use Rattle.store_core.specs.Stored.{IsAt, IsServing, StoreTerm as Memory, alone,
 use Rattle.store_machine.specs.History.{begun, snapshot}
 use Rattle.store_machine.specs.declared.machine.Status.{Status}
 use Rattle.store_disk.specs.OnDisk.{IsReady, StandsFor}
+use Rattle.store_disk.proofs.Doubts.{no-finish}
 use Rattle.store_disk.proofs.Opened.{at-rest}
 
 -- the two disks, and the journal at its first gate
@@ -51,5 +52,6 @@ new-stands memory commits at = record {
   pair = λ l is. absurd (cc is);
   copy = refl;
   copied = tt;
+  doubts = no-finish no_journal None refl;
   counts = refl;
 }

@@ -3,7 +3,7 @@ use Rattle.std.proofs.Common.{◌≡◌, ◌+◌, ◌++◌, ◌-◌, ◌<◌, �
 use Rattle.std.proofs.lemmas.List.{drop_all, length-map, map-append, take-append-le, take_all, take_more}
 use Rattle.std.specs.FinMap.{entries}
 use Rattle.disk_pair.specs.Gives.{empty_copy}
-use Rattle.disk_pair.specs.Term.{OfEachPair, Paired, next_header}
+use Rattle.disk_pair.specs.Term.{OfEachPair, OfSomePair, Paired, next_header}
 use Rattle.disk_edge.specs.Disk.{DiskModel}
 use Rattle.disk_pair.specs.Stands.{StandsFor as StandsOnDisks}
 use Rattle.disk_pair.specs.Pairs.{History as Written, MayShow, PairOpens, PairOpensTo as MayOpen, State as PairState, with_base, with_commit}
@@ -11,7 +11,7 @@ use Rattle.store_core.specs.Stored.{IsServing, StoreTerm as Memory}
 use Rattle.store_machine.specs.History.{IsHistory, grown, head, rebase}
 use Rattle.store_machine.specs.Kept.{IsPast}
 use Rattle.store_machine.specs.Laws.{IsSound, RunsStaySound}
-use Rattle.store_machine.specs.Machine.{MayAdd, MayFinish, Recovers, committed, crashed, copying, now, on_disk, one_more}
+use Rattle.store_machine.specs.Machine.{IsOfCopy, MayAdd, MayBeLeft, Recovers, committed, crashed, copying, now, on_disk, one_more}
 use Rattle.store_machine.specs.Rebases.{RebasesGrow, RebasesKeepHeads}
 use Rattle.store_machine.specs.declared.machine.Event.TheVariants.{Crash}
 use Rattle.store_machine.specs.declared.machine.Reply.TheVariants.{Crashed}
@@ -20,7 +20,7 @@ use Rattle.store_machine.specs.declared.machine.Copying.{Copying}
 use Rattle.store_machine.specs.declared.machine.History.{History}
 use Rattle.store_machine.specs.declared.machine.State.{State}
 use Rattle.store_disk.specs.Loads.{OpensAfter, OpensTo}
-use Rattle.store_disk.specs.OnDisk.{CopyTerm, StandsFor, copy_so_far, lacking, on_pair, whole_copy}
+use Rattle.store_disk.specs.OnDisk.{CopyTerm, StandsFor, StoreTerm, copy_so_far, lacking, on_pair, whole_copy}
 use Rattle.store_disk.specs.Payloads.{base_payload, history_of, payload, payloads}
 
 none-some : {X : Type 0} {x : X} → None ≡ Some x → ⊥
@@ -36,14 +36,14 @@ pub grown-written : (generation : ℕ) (h : History) (c : Change)
 grown-written generation h c = ap (λ (ps : List (List ℕ)). record (history_of generation h) { commits = ps })
     (sym (map-append payload h.commits (c ∷ [])))
 
--- the history is one that the machine may recover
-abbrev pub IsRecovered : State → Written → Type 0
-IsRecovered s x = (h : History) × (generation : ℕ) × Recovers s h generation × (x ≡ history_of generation h)
+-- the history is one that may be left
+abbrev pub IsLeft : State → Written → Type 0
+IsLeft s x = (h : History) × (generation : ℕ) × MayBeLeft s h generation × (x ≡ history_of generation h)
 
-doubt-recovered : (s : State) (p : List ℕ) (o : Option Change) → s.doubt ≡ o → option_map payload o ≡ Some p
-    → IsRecovered s (with_commit (history_of s.generation (on_disk s)) p)
-doubt-recovered s p None is doubt = absurd (none-some doubt)
-doubt-recovered s p (Some c) is doubt = (
+doubt-left : (s : State) (p : List ℕ) (o : Option Change) → s.doubt ≡ o → option_map payload o ≡ Some p
+    → IsLeft s (with_commit (history_of s.generation (on_disk s)) p)
+doubt-left s p None is doubt = absurd (none-some doubt)
+doubt-left s p (Some c) is doubt = (
   grown (on_disk s) (c ∷ []),
   s.generation,
   inr (inl (c, is, refl, refl)),
@@ -51,23 +51,23 @@ doubt-recovered s p (Some c) is doubt = (
       ∙ grown-written s.generation (on_disk s) c,
 )
 
-finish-recovered : (s : State) (x : Written) (o : Option ℕ) → s.finish ≡ o → option_map (whole_copy s) o ≡ Some x
-    → IsRecovered s x
-finish-recovered s x None is finish = absurd (none-some finish)
-finish-recovered s x (Some version) is finish = (
+finish-left : (s : State) (x : Written) (o : Option ℕ) → s.finish ≡ o → option_map (whole_copy s) o ≡ Some x
+    → IsLeft s x
+finish-left s x None is finish = absurd (none-some finish)
+finish-left s x (Some version) is finish = (
   rebase s.history version,
   s.generation + 1,
-  inr (inr (version, inl is, refl, refl)),
+  inr (inr (version, is, (refl, refl))),
   sym (ap (in-some x) finish),
 )
 
-same-recovered : (s : State) (x y : Written) → x ≡ y → IsRecovered s y → IsRecovered s x
-same-recovered s x y e r = (r.0, r.1, r.2, e ∙ r.3)
+same-left : (s : State) (x y : Written) → x ≡ y → IsLeft s y → IsLeft s x
+same-left s x y e r = (r.0, r.1, r.2, e ∙ r.3)
 
-pub shown-recovered : (s : State) (x : Written) → MayShow (on_pair s) x → IsRecovered s x
-shown-recovered s x (inl e) = (on_disk s, s.generation, inl (refl, refl), e)
-shown-recovered s x (inr (inl (p, doubt, e))) = same-recovered s x _ e (doubt-recovered s p s.doubt refl doubt)
-shown-recovered s x (inr (inr finish)) = finish-recovered s x s.finish refl finish
+pub shown-left : (s : State) (x : Written) → MayShow (on_pair s) x → IsLeft s x
+shown-left s x (inl e) = (on_disk s, s.generation, inl (refl, refl), e)
+shown-left s x (inr (inl (p, doubt, e))) = same-left s x _ e (doubt-left s p s.doubt refl doubt)
+shown-left s x (inr (inr finish)) = finish-left s x s.finish refl finish
 
 -- a copy by the numbers of its items
 abbrev part : ℕ → ℕ → Written → Written
@@ -177,19 +177,19 @@ recovered-history law s h g r sound = (law s (crashed s h g) (record {
   end = record { a = 0; b = 0 };
 } ∷ []) (refl, (r, refl), refl) sound).history
 
-past-finish : (s : State) (version : ℕ) → MayFinish s version → IsSound s → IsPast s version
-past-finish s version (inl is) sound =
-    subst (λ (o : Option ℕ). MatchOption o (Unit {0}) (IsPast s)) is sound.bases.finish
-past-finish s version (inr is) sound =
-    subst (λ (o : Option Copying). MatchOption o (Unit {0}) (λ copy. IsPast s copy.version)) is sound.bases.copy
+copy-few : RebasesKeepHeads → (memory : Memory) (s : State) (version : ℕ) (h : History) (g : ℕ) → IsPast s version
+    → IsOfCopy s version h g → IsServing memory s → head h ≤ 16777215
+copy-few heads memory s version h g past of m =
+    let same = ap head of.0 ∙ heads s.history version past.0 past.1 in
+    omega (arith, same, m.stands.version, m.stands.within)
 
-recovered-few : RebasesKeepHeads → (memory : Memory) (s : State) (h : History) (g : ℕ) → Recovers s h g
+left-few : RebasesKeepHeads → (memory : Memory) (s : State) (h : History) (g : ℕ) → MayBeLeft s h g
     → IsServing memory s → head h ≤ 16777215
-recovered-few heads memory s h g (inl (is, at)) m =
+left-few heads memory s h g (inl (is, at)) m =
     let past = m.sound.bases.base in
     let same = ap head is ∙ heads s.history s.base past.0 past.1 in
     omega (arith, same, m.stands.version, m.stands.within)
-recovered-few heads memory s h g (inr (inl (c, doubt, is, at))) m =
+left-few heads memory s h g (inr (inl (c, doubt, is, at))) m =
     let past = m.sound.bases.base in
     let same = heads s.history s.base past.0 past.1 in
     let more = length-append (on_disk s).commits (c ∷ []) in
@@ -197,10 +197,17 @@ recovered-few heads memory s h g (inr (inl (c, doubt, is, at))) m =
     let room = may.2 in
     let last = ap head is in
     omega (arith, same, more, last, room, m.stands.limit, m.stands.most)
-recovered-few heads memory s h g (inr (inr (version, may, is, at))) m =
-    let past = past-finish s version may m.sound in
-    let same = ap head is ∙ heads s.history version past.0 past.1 in
-    omega (arith, same, m.stands.version, m.stands.within)
+left-few heads memory s h g (inr (inr (version, finish, of))) m =
+    copy-few heads memory s version h g
+    (subst (λ (o : Option ℕ). MatchOption o (Unit {0}) (IsPast s)) finish m.sound.bases.finish) of m
+
+recovered-few : RebasesKeepHeads → (memory : Memory) (s : State) (h : History) (g : ℕ) → Recovers s h g
+    → IsServing memory s → head h ≤ 16777215
+recovered-few heads memory s h g (inl left) m = left-few heads memory s h g left m
+recovered-few heads memory s h g (inr (version, whole, of)) m =
+    copy-few heads memory s version h g
+    (subst (λ (o : Option Copying). MatchOption o (Unit {0}) (λ copy. IsPast s copy.version)) whole m.sound.bases.copy)
+    of m
 
 -- what may be recovered of a state that is served is what bytes open to
 pub opens-recovered : RunsStaySound → RebasesKeepHeads → (memory : Memory) (s : State) → IsServing memory s
@@ -214,11 +221,12 @@ opens-recovered law heads memory s serving h g r x y opens = record {
 pub shown-after : RunsStaySound → RebasesKeepHeads → (memory : Memory) (s : State) → IsServing memory s
     → (x y : List ℕ) → MayOpen (MayShow (on_pair s)) x y → OpensAfter s x y
 shown-after law heads memory s serving x y opens =
-    let r = shown-recovered s opens.0 opens.1 in (
+    let r = shown-left s opens.0 opens.1 in (
       r.0,
       r.1,
       r.2,
-      opens-recovered law heads memory s serving r.0 r.1 r.2 x y (subst (λ (w : Written). PairOpens w x y) r.3 opens.2),
+      opens-recovered law heads memory s serving r.0 r.1 (inl r.2) x y
+          (subst (λ (w : Written). PairOpens w x y) r.3 opens.2),
     )
 
 -- a state with a commit in doubt that may be added
@@ -248,7 +256,7 @@ pub shown-with : RunsStaySound → RebasesKeepHeads → (memory : Memory) (s : S
     → OpensTo (grown (on_disk s) (c ∷ [])) s.generation x y
 shown-with law heads memory s serving c may x y opens =
     opens-recovered law heads memory (doubting s c) (doubting-serves memory s c may serving)
-    (grown (on_disk s) (c ∷ [])) s.generation (inr (inl (c, refl, refl, refl))) x y
+    (grown (on_disk s) (c ∷ [])) s.generation (inl (inr (inl (c, refl, refl, refl)))) x y
     (subst (λ (w : Written). PairOpens w x y) (grown-written s.generation (on_disk s) c) opens)
 
 pub standing-opens : RunsStaySound → RebasesKeepHeads → {D : Type 0} (model : DiskModel D) (pair : Paired D)
@@ -257,3 +265,38 @@ pub standing-opens : RunsStaySound → RebasesKeepHeads → {D : Type 0} (model 
     → StandsFor model (record { memory = memory; pair = pair; copy = copy }) s → OfEachPair model pair (OpensAfter s)
 standing-opens law heads model pair leaves memory copy s stands = λ l is m it x y i j.
     shown-after law heads memory s stands.memory x y (leaves (on_pair s) (stands.pair l is m it) l is m it x y i j)
+
+module _ (law : RunsStaySound) (heads : RebasesKeepHeads) {D : Type 0} (model : DiskModel D) (store : StoreTerm D)
+    (s : State) (stands : StandsFor model store s) where
+  -- some two images open to what may be left
+  some-left : (w : Written) (h : History) (g : ℕ) → MayBeLeft s h g → w ≡ history_of g h
+      → (StandsOnDisks model store.pair (on_pair s) → OfSomePair model store.pair (PairOpens w))
+      → OfSomePair model store.pair (OpensTo h g)
+  some-left w h g left is shown l told k it =
+      let o = shown (stands.pair l told k it) l told k it in (
+        o.0,
+        o.1,
+        o.2,
+        o.3,
+        opens-recovered law heads store.memory s stands.memory h g (inl left) o.0 o.1
+            (subst (λ (v : Written). PairOpens v o.0 o.1) is o.4),
+      )
+
+  pub commit-left : (c : Change) → s.doubt ≡ Some c → s.finish ≡ None
+      → ((t : PairState) (p : List ℕ) → StandsOnDisks model store.pair t → t.commit ≡ Some p → t.finish ≡ None
+      → OfSomePair model store.pair (PairOpens (with_commit t.now p)))
+      → OfSomePair model store.pair (OpensTo (grown (on_disk s) (c ∷ [])) s.generation)
+  commit-left c doubt finish shown =
+      some-left (with_commit (on_pair s).now (payload c)) (grown (on_disk s) (c ∷ [])) s.generation
+      (inr (inl (c, doubt, refl, refl))) (grown-written s.generation (on_disk s) c)
+      (λ it. shown (on_pair s) (payload c) it (ap (λ (o : Option Change). option_map payload o) doubt)
+      (ap (λ (o : Option ℕ). option_map (whole_copy s) o) finish))
+
+  pub finish-left-open : (version : ℕ) → s.finish ≡ Some version
+      → ((t : PairState) (w : Written) → StandsOnDisks model store.pair t → t.finish ≡ Some w
+      → OfSomePair model store.pair (PairOpens w))
+      → OfSomePair model store.pair (OpensTo (rebase s.history version) (s.generation + 1))
+  finish-left-open version finish shown =
+      some-left (whole_copy s version) (rebase s.history version) (s.generation + 1)
+      (inr (inr (version, finish, (refl, refl)))) refl
+      (λ it. shown (on_pair s) (whole_copy s version) it (ap (λ (o : Option ℕ). option_map (whole_copy s) o) finish))

@@ -6,7 +6,7 @@ use Rattle.disk_pair.specs.Term.{progress_of}
 use Rattle.store_core.specs.Stored.{AsksNoOwner}
 use Rattle.store_machine.specs.Owners.{SameButOwners, SoundnessAsksNoOwner}
 use Rattle.store_machine.specs.declared.machine.State.{State}
-use Rattle.store_disk.specs.OnDisk.{HasCopy, HasHeader, IfBothTold, StandsFor, StoreTerm, on_pair}
+use Rattle.store_disk.specs.OnDisk.{AreKnown, HasCopy, HasHeader, IfBothTold, StandsFor, StoreTerm, on_pair}
 
 pub asks-no-owner : {D : Type 0} (model : DiskModel D) → AsksNoOwner → SoundnessAsksNoOwner
     → (store : StoreTerm D) (s t : State) → SameButOwners s t → StandsFor model store s → StandsFor model store t
@@ -22,5 +22,6 @@ asks-no-owner model memory sound store s t same h = record {
   copy = subst (λ (x : State). HasCopy x.history x.copy store.copy) (sym same.rest) h.copy;
   copied = subst (λ (x : State). HasHeader x.generation x.history store.copy (progress_of store.pair.other))
       (sym same.rest) h.copied;
+  doubts = subst (λ (x : State). AreKnown store.pair x.doubt x.finish) (sym same.rest) h.doubts;
   counts = ap (λ (x : State). x.faults) same.rest ∙ h.counts;
 }

@@ -80,5 +80,6 @@ pruned-call model only-now law heads store leaves keep m s h version n is says =
       pair = h.pair;
       copy = h.copy;
       copied = h.copied;
+      doubts = h.doubts;
       counts = h.counts;
     })

@@ -83,7 +83,8 @@ module _ {D : Type 0} (model : DiskModel D) (old : Standing D) where
 
     -- what is there is broken or not read
     pub log-damaged : (at : ℕ) → ((front : List ℕ) (ps : List (List ℕ)) → Reads model now front ps
-        → (at ≡ length (prefix front ps)) × IfTold (model.content now.disk) (λ l. Breaks front ps l ⊎ Unread front ps l))
+        → (at ≡ length (prefix front ps))
+        × IfTold (model.content now.disk) (λ l. Breaks front ps l ⊎ Unread front ps l))
         → (front : List ℕ) (before : List (List ℕ)) → Reads model old front before
         → IfTold (model.content old.disk) (DamagesLog front before at)
     log-damaged at found front before q l told =

@@ -1,5 +1,5 @@
 -- A copy that is not started.
-use Rattle.std.proofs.Common.{◌≡◌, ◌⊎◌, ◌∙◌, ap, arith, Err, false, inl, inr, List, [], ◌∷◌, None, Option, option_map, refl, Some, subst, sym, true, ℕ}
+use Rattle.std.proofs.Common.{◌≡◌, ◌⊎◌, ◌<◌, ◌∙◌, ap, arith, Err, false, inl, inr, List, [], ◌∷◌, None, Option, option_map, refl, Some, subst, sym, true, ℕ}
 use Rattle.disk_edge.specs.Disk as disk
 use Rattle.disk_edge.specs.Disk.{DiskModel}
 use Rattle.disk_pair.specs.Gives.{EndsOlder, OnFault, StartGives}
@@ -23,9 +23,10 @@ use Rattle.store_machine.specs.declared.machine.State.{State}
 use Rattle.store_machine.specs.declared.machine.TheConstants.{LAST_GENERATION}
 use Rattle.store_disk.specs.Faults.{copy_fault}
 use Rattle.store_disk.specs.Items.{counted}
-use Rattle.store_disk.specs.OnDisk.{HasCopy, IfBothTold, StandsFor, StoreTerm, copy_so_far, on_pair, whole_copy}
+use Rattle.store_disk.specs.OnDisk.{AreKnown, HasCopy, IfBothTold, StandsFor, StoreTerm, copy_so_far, on_pair, whole_copy}
 use Rattle.store_disk.specs.Stored.{Stretches}
 use Rattle.store_disk.proofs.Compacts.{compacted, gives-of, opened, some-rose, stood}
+use Rattle.store_disk.proofs.Doubts.{no-finish, told-known}
 use Rattle.store_disk.proofs.Lifts.{sound-after, still-call}
 use Rattle.store_disk.proofs.Steps.{all}
 
@@ -57,29 +58,32 @@ module _ {D : Type 0} (model : DiskModel D) (law : RunsStaySound) (heads : Rebas
   record Older : Type 0 where
     finish : Option ℕ
     is : StaysOrEnds s.finish finish
+    known : AreKnown pair s.doubt finish
     disks : IfBothTold model pair (StandsOnDisks model pair (on_pair (end finish)))
+
+  with-finish : (finish : Option ℕ) → StaysOrEnds s.finish finish → StandsOnDisks model pair (on_pair (end finish))
+      → Older
+  with-finish finish is it = record {
+    finish = finish;
+    is = is;
+    known = told-known model pair (end finish) it;
+    disks = λ l told k too. it;
+  }
 
   told : StandsOnDisks model store.pair (on_pair s) → EndsOlder (StandsOnDisks model pair) (on_pair s) → Older
   told old e = elim e.finish_is [
-    | inl stays ↦ record {
-      finish = s.finish;
-      is = inl refl;
-      disks = λ l is k it. kept e.commit s.finish old (subst (λ (o : Option Written).
-          StandsOnDisks model pair (record (on_pair s) { commit = e.commit; finish = o })) stays e.stands);
-    }
-    | inr ends ↦ record {
-      finish = None;
-      is = inr refl;
-      disks = λ l is k it. kept e.commit None old (subst (λ (o : Option Written).
-          StandsOnDisks model pair (record (on_pair s) { commit = e.commit; finish = o })) ends e.stands);
-    }
+    | inl stays ↦ with-finish s.finish (inl refl) (kept e.commit s.finish old (subst (λ (o : Option Written).
+        StandsOnDisks model pair (record (on_pair s) { commit = e.commit; finish = o })) stays e.stands))
+    | inr ends ↦ with-finish None (inr refl) (kept e.commit None old (subst (λ (o : Option Written).
+        StandsOnDisks model pair (record (on_pair s) { commit = e.commit; finish = o })) ends e.stands))
   ]
 
   -- where a disk does not tell its content, nothing is said of it
   untold : IfBothTold model pair ⊥ → Older
   untold never = record {
-    finish = s.finish;
-    is = inl refl;
+    finish = None;
+    is = inr refl;
+    known = no-finish pair s.doubt (ap (λ j. j.doubt) same ∙ h.doubts.commit);
     disks = λ l is k it. absurd (never l is k it);
   }
 
@@ -114,25 +118,26 @@ module _ {D : Type 0} (model : DiskModel D) (law : RunsStaySound) (heads : Rebas
         pair = o.disks;
         copy = refl;
         copied = tt;
+        doubts = o.known;
         counts = refl;
       }) (opened model law heads store s h new goes_a goes_b moments)
 
   -- by the fault
-  pub refused-start : (f : PutFault) (header : Header)
+  pub refused-start : (f : PutFault) (header : Header) → s.generation < LAST_GENERATION
       → ((t : PairState) → StandsOnDisks model store.pair t → StartGives (Err f) (StandsOnDisks model pair) t header)
       → OnFault (Err f) (disk.Faulted model (disk_a store.pair) (disk_a pair)
       ⊎ disk.Faulted model (disk_b store.pair) (disk_b pair))
       → ((t : PairState) → StandsOnDisks model store.pair t
       → AtEachPair model store.pair pair (PairMayOpen (PairMayShow t)))
       → Calls (Stretches model) all store new s (compact_calls (Err (copy_fault f)))
-  refused-start (put.DiskFault true) header gives failed moments =
+  refused-start (put.DiskFault true) header room gives failed moments =
       step (DiskFault false)
-      (λ finish is. (some-rose model law heads store s h new goes_a goes_b failed, (is, refl)))
+      (λ finish is. (some-rose model law heads store s h new goes_a goes_b failed, (λ _. room, is, refl)))
       (λ t it. absurd (gives t it)) moments
-  refused-start (put.DiskFault false) header gives failed moments =
+  refused-start (put.DiskFault false) header room gives failed moments =
       step (DiskFault false)
-      (λ finish is. (some-rose model law heads store s h new goes_a goes_b failed, (is, refl))) gives moments
-  refused-start put.NoMemory header gives failed moments =
+      (λ finish is. (some-rose model law heads store s h new goes_a goes_b failed, (λ _. room, is, refl))) gives moments
+  refused-start put.NoMemory header room gives failed moments =
       step NoMemory (λ finish is. (subst (λ (o : Option Copying). TakesSome o None) (sym none) refl, is, refl)) gives
       moments
 

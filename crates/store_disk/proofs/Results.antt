@@ -13,7 +13,8 @@ on-damaged (Err (fault.Damaged at)) f p = f at p
 on-damaged (Err fault.NoMemory) f p = tt
 
 -- the fault alone counts
-pub same-fault : (X Y : Type 0) (P : ℕ → Type 0) (f : LoadFault) → OnDamaged {T = Y} (Err f) P → OnDamaged {T = X} (Err f) P
+pub same-fault : (X Y : Type 0) (P : ℕ → Type 0) (f : LoadFault) → OnDamaged {T = Y} (Err f) P
+    → OnDamaged {T = X} (Err f) P
 same-fault X Y P fault.Disk p = tt
 same-fault X Y P fault.NotAStore p = tt
 same-fault X Y P (fault.Damaged at) p = p

@@ -24,6 +24,7 @@ use Rattle.store_disk.specs.OnDisk.{CopyTerm, HasCopy, HasHeader, Lacks, StandsF
 use Rattle.store_disk.specs.Payloads.{payload}
 use Rattle.store_disk.specs.Stored.{Stretches}
 use Rattle.store_disk.proofs.Compacts.{compacted, gives-of, opened, stood}
+use Rattle.store_disk.proofs.Doubts.{no-finish}
 use Rattle.store_disk.proofs.Items.{all-later}
 use Rattle.store_disk.proofs.Lifts.{sound-after}
 use Rattle.store_disk.proofs.OnDisks.{after-start}
@@ -129,5 +130,6 @@ module _ {D : Type 0} (model : DiskModel D) (law : RunsStaySound) (heads : Rebas
         copied = subst (HasHeader s.generation s.history (Some (new_copy version left))) (sym progress)
             (head-is
             ∙ ap (λ v. next_header (on_pair s).now.header v (length (entries (snapshot s.history v)))) (sym is));
+        doubts = no-finish pair s.doubt (ap (λ j. j.doubt) same ∙ h.doubts.commit);
         counts = refl;
       }) (opened model law heads store s h new goes_a goes_b moments)

@@ -19,6 +19,7 @@ use Rattle.store_disk.specs.Loads.{Damages, DamagesDisk, OpensTo}
 use Rattle.store_disk.specs.OnDisk.{IfBothTold, StandsFor, on_pair}
 use Rattle.store_disk.specs.Payloads.{history_of}
 use Rattle.store_disk.specs.Replays.{IsLoaded}
+use Rattle.store_disk.proofs.Doubts.{no-finish}
 use Rattle.store_disk.proofs.Opened.{at-rest, needed-rested, rested}
 
 -- what is read of two, and what is not
@@ -131,6 +132,7 @@ module _ {D : Type 0} (model : DiskModel D) (stays : RebasesStay) (a b : D) (sec
           pair = told-current;
           copy = refl;
           copied = tt;
+          doubts = no-finish pair None settled;
           counts = refl;
         },
         record {

@@ -16,6 +16,7 @@ use Rattle.store_machine.specs.declared.machine.State.{State}
 use Rattle.store_disk.specs.Items.{counted, one_less, with_next}
 use Rattle.store_disk.specs.OnDisk.{CopyTerm, HasCopy, HasHeader, IfBothTold, Lacks, StandsFor, StoreTerm, copy_so_far, on_pair}
 use Rattle.store_disk.proofs.Compacts.{gives-of, some-rose, stood}
+use Rattle.store_disk.proofs.Doubts.{running-known}
 use Rattle.store_disk.proofs.Items.{less}
 use Rattle.store_disk.proofs.Lifts.{sound-after}
 use Rattle.store_disk.proofs.Finishes.{takes-none}
@@ -28,7 +29,8 @@ takes-one (Some copy) = (copy.left - 1, refl, omega arith, omega arith)
 module _ {D : Type 0} (model : DiskModel D) (law : RunsStaySound) (heads : RebasesKeepHeads) (store : StoreTerm D)
     (s : State) (h : StandsFor model store s) (pair : Paired D)
     (goes_a : Goes model (disk_a store.pair) (disk_a pair)) (goes_b : Goes model (disk_b store.pair) (disk_b pair))
-    (same : pair.journal ≡ store.pair.journal) where
+    (same : pair.journal ≡ store.pair.journal) (c : CopyTerm) (l : Lacks s.history s.copy c)
+    (runs : HasHeader s.generation s.history (Some c) (progress_of store.pair.other)) where
   abbrev new : Option CopyTerm → StoreTerm D
   new copy = record { memory = store.memory; pair = pair; copy = copy }
 
@@ -52,15 +54,17 @@ module _ {D : Type 0} (model : DiskModel D) (law : RunsStaySound) (heads : Rebas
     pair = disks;
     copy = has;
     copied = header;
+    doubts = running-known store.pair pair s.generation s.history c s.doubt s.finish runs (ap (λ j. j.doubt) same)
+        h.doubts;
     counts = refl;
   }
 
-  pub taken : (c next : CopyTerm) → Lacks s.history s.copy c → Lacks s.history (one_less s).copy next
+  pub taken : (next : CopyTerm) → Lacks s.history (one_less s).copy next
       → HasHeader s.generation s.history (Some next) (progress_of pair.other)
       → (StandsOnDisks model store.pair (on_pair s)
       → StandsOnDisks model pair (record (on_pair s) { copy = Some (with_next s c) }))
       → StandsFor model (new (Some next)) (counted model pair (one_less s))
-  taken c next l has header disks =
+  taken next has header disks =
       stands (less s.copy) (Some next) NoMemory (takes-one s.copy, inl refl, refl) has header
       (stood model law heads store s h (new (Some next)) goes_a goes_b (λ it. subst (λ (o : Option Written).
       StandsOnDisks model pair (record (on_pair s) { copy = o }))
@@ -72,7 +76,8 @@ module _ {D : Type 0} (model : DiskModel D) (law : RunsStaySound) (heads : Rebas
       → StandsFor model (new None) (counted model pair (record s { copy = None }))
   given-up failed disks =
       stands None None (DiskFault false)
-      (some-rose model law heads store s h (new None) goes_a goes_b failed, (inl refl, refl)) refl tt
+      (some-rose model law heads store s h (new None) goes_a goes_b failed, (λ none. cc (none, l.is), inl refl, refl))
+      refl tt
       (stood model law heads store s h (new None) goes_a goes_b disks)
 
   pub untaken : (copy : Option CopyTerm) → HasCopy s.history s.copy copy

@@ -12,7 +12,7 @@ use Rattle.journal_core.specs.Records.{prefix}
 use Rattle.journal_core.specs.declared.faults.LoadFault.{LoadFault}
 use Rattle.journal_core.specs.declared.header.Header.{Header}
 use Rattle.store_machine.specs.History.{HasText, IsAllowed, IsHistory, IsValid, head, snapshot}
-use Rattle.store_machine.specs.Machine.{Recovers}
+use Rattle.store_machine.specs.Machine.{MayBeLeft}
 use Rattle.store_machine.specs.declared.machine.Change.{Change}
 use Rattle.store_machine.specs.declared.machine.History.{History}
 use Rattle.store_machine.specs.declared.machine.State.{State}
@@ -102,9 +102,9 @@ pub record Damages (at : ℕ) (a b : List ℕ) : Type 0 where
   pub picks : Picks a b read
   pub damages : DamagesDisk at read
 
--- two images open to what the machine may recover
+-- two images open to what may be left of a state, after a call
 abbrev pub OpensAfter : State → List ℕ → List ℕ → Type 0
-OpensAfter s a b = (h : History) × (generation : ℕ) × Recovers s h generation × OpensTo h generation a b
+OpensAfter s a b = (h : History) × (generation : ℕ) × MayBeLeft s h generation × OpensTo h generation a b
 
 -- the disks that a loading leaves, in the store or beside the fault
 abbrev pub a_after : {D : Type 0} → Result (StoreTerm D) (LoadFault × Disks D) → D

@@ -1,15 +1,16 @@
 -- What the two disks of a store have, at each state of the machine. For callers.
-use Rattle.std.specs.Prelude.{◌≡◌, ◌+◌, ◌++◌, ◌-◌, ◌*◌, ◌≤◌, count_by, length, List, [], nat_le, None, Option, option_map, Some, take, ℕ}
+use Rattle.std.specs.Prelude.{◌≡◌, ◌+◌, ◌++◌, ◌-◌, ◌*◌, ◌≤◌, count_by, is_some, length, List, [], nat_le, None, Option, option_map, Some, take, true, ℕ}
 use Rattle.std.specs.List.{AllByRecursion}
 use Rattle.disk_edge.specs.Disk.{DiskModel, IfTold}
 use Rattle.disk_pair.specs.Pairs.{History as Written, State as PairState}
 use Rattle.disk_pair.specs.Stands.{StandsFor as PairStandsFor}
-use Rattle.disk_pair.specs.Term.{Paired, Progress, disk_a, disk_b, progress_of}
+use Rattle.disk_pair.specs.Term.{Paired, Progress, disk_a, disk_b, is_doubtful, progress_of}
 use Rattle.journal_core.specs.Records.{IsShort}
 use Rattle.journal_core.specs.declared.format.TheConstants.{LONGEST_PAYLOAD}
 use Rattle.store_core.specs.Stored.{IsServing, StoreTerm as Memory}
 use Rattle.store_machine.specs.History.{rebase}
 use Rattle.store_machine.specs.Machine.{on_disk}
+use Rattle.store_machine.specs.declared.machine.Change.{Change}
 use Rattle.store_machine.specs.declared.machine.Copying.{Copying}
 use Rattle.store_machine.specs.declared.machine.History.{History}
 use Rattle.store_machine.specs.declared.machine.State.{State}
@@ -77,6 +78,12 @@ HasHeader generation h (Some c) (Some p) = p.header ≡ (history_of (generation 
 abbrev pub IfBothTold : {D : Type 0} → DiskModel D → Paired D → Type 0 → Type 0
 IfBothTold model pair P = IfTold (model.content (disk_a pair)) (λ _. IfTold (model.content (disk_b pair)) (λ _. P))
 
+-- The doubts of a state are known, also over disks that tell no content. The journal is in doubt exactly where a commit
+-- is, and a finish is in doubt only where the other disk is known to be doubtful.
+pub record AreKnown {D : Type 0} (pair : Paired D) (doubt : Option Change) (finish : Option ℕ) : Type 0 where
+  pub commit : pair.journal.doubt ≡ is_some doubt
+  pub other : is_some finish ≡ true → is_doubtful pair.other ≡ true
+
 -- The store stands for a state. What is in memory serves it. The current disk's header is that of the history from its
 -- base on. Where both disks tell their contents, they have this history, the commit and the finish in doubt, and the
 -- copy so far. A copy runs where memory has one. The counts of faults are those of the disks. Whose the pins are is
@@ -87,6 +94,7 @@ pub record StandsFor {D : Type 0} (model : DiskModel D) (store : StoreTerm D) (s
   pub pair : IfBothTold model store.pair (PairStandsFor model store.pair (on_pair s))
   pub copy : HasCopy s.history s.copy store.copy
   pub copied : HasHeader s.generation s.history store.copy (progress_of store.pair.other)
+  pub doubts : AreKnown store.pair s.doubt s.finish
   pub counts : s.faults ≡ record { a = model.faults (disk_a store.pair); b = model.faults (disk_b store.pair) }
 
 -- a payload that a journal takes

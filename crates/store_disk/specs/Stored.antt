@@ -7,7 +7,7 @@ use Rattle.disk_edge.specs.Disk.{DiskModel, Keeps}
 use Rattle.disk_pair.specs.Term.{Paired, disk_a, disk_b}
 use Rattle.store_machine.proofs.Joins.{calms-join, runs-join}
 use Rattle.store_machine.specs.History.{grown}
-use Rattle.store_machine.specs.Machine.{MayAdd, Recovers, on_disk}
+use Rattle.store_machine.specs.Machine.{IsOfCopy, IsWhole, MayAdd, MayBeLeft, on_disk}
 use Rattle.store_machine.specs.Runs.{IsCalm, IsRun}
 use Rattle.store_machine.specs.declared.machine.Change.{Change}
 use Rattle.store_machine.specs.declared.machine.Event.{Event}
@@ -25,12 +25,13 @@ CallsDisks (Commit c) = Unit {0}
 CallsDisks Compact = Unit {0}
 CallsDisks _ = ⊥
 
--- A crash at a moment of a step shows what the machine may recover from before it, or the history with the commit that
--- the step asks for, where it may be added.
+-- A crash at a moment of a step shows what may be left before it; or the history with the commit that the step asks
+-- for, where it may be added; or, at a step of a compaction alone, the copy that lacks nothing.
 abbrev pub MayShow : Step → History → ℕ → Type 0
-MayShow x h generation = Recovers x.before h generation
-    ⊎ ((c : Change) × (x.event ≡ Commit c) × MayAdd x.before c × (h ≡ grown (on_disk x.before) (c ∷ []))
+MayShow x h generation = MayBeLeft x.before h generation
+    ⊎ (((c : Change) × (x.event ≡ Commit c) × MayAdd x.before c × (h ≡ grown (on_disk x.before) (c ∷ []))
     × (generation ≡ x.before.generation))
+    ⊎ ((version : ℕ) × (x.event ≡ Compact) × IsWhole x.before version × IsOfCopy x.before version h generation))
 
 -- two images open to that
 abbrev pub Shows : Step → List ℕ → List ℕ → Type 0

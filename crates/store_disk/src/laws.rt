@@ -3,13 +3,13 @@ ghost use Rattle.std.specs.Prelude.{◌≡◌, ◌≤◌, ◌<◌, ◌+◌, ◌-
 ghost use Rattle.std.specs.FinMap.{entries};
 ghost use Rattle.disk_pair.specs.Gives.{empty_copy};
 ghost use Rattle.disk_pair.specs.Pairs.{History as Written, MayShow, with_base, with_commit};
-ghost use Rattle.disk_pair.specs.Term.{OfEachPair, next_header};
+ghost use Rattle.disk_pair.specs.Term.{OfEachPair, OfSomePair, next_header};
 ghost use Rattle.journal_core.specs.Fronts.{IsFront, IsOpen};
 ghost use Rattle.journal_core.specs.Records.{prefix};
 ghost use Rattle.journal_core.specs.declared.format.TheConstants.{CLOSED};
-ghost use Rattle.store_machine.specs.History.{IsHistory, head};
+ghost use Rattle.store_machine.specs.History.{IsHistory, grown, head, rebase};
 ghost use Rattle.store_machine.specs.Laws.{IsSound};
-ghost use Rattle.store_machine.specs.Machine.{Recovers, committed, copying, now, replaced};
+ghost use Rattle.store_machine.specs.Machine.{MayBeLeft, Recovers, committed, copying, now, on_disk, replaced};
 ghost use Rattle.store_machine.specs.Owners.{SameButOwners};
 ghost use Rattle.store_machine.specs.declared.machine.Change.{Change};
 ghost use Rattle.store_machine.specs.declared.machine.History.{History};
@@ -22,7 +22,7 @@ use crate::below::laws;
 use crate::store::Store;
 use commit_log::{a_base_reads_one_way, a_log_reads_one_way};
 use disk_edge::Disk;
-use disk_pair::a_pair_opens_one_way;
+use disk_pair::{a_crash_may_leave_a_doubt, a_pair_opens_one_way};
 use store_machine::rebases_keep;
 
 /// Two disks open to one history, in one generation, or are damaged at one place, or neither is open, and never two of
@@ -58,7 +58,7 @@ pub fn what_was_written_opens()
     a_pair_opens_one_way();
 }
 
-/// Each two images that a crash now may leave of a store's two disks open to what the machine may recover.
+/// Each two images that a crash now may leave of a store's two disks open to what may be left of the state.
 pub fn a_standing_store_opens<D: Disk>(store: &Store<D>)
     ensures { (s : State) → StandsFor D.model store.now s
         → OfEachPair D.model store.now.pair (OpensAfter s) }
@@ -66,10 +66,27 @@ pub fn a_standing_store_opens<D: Disk>(store: &Store<D>)
     laws(&store.pair);
 }
 
-/// What two disks may show of a state after a crash is what the machine may recover.
+/// A crash now may leave what is in doubt: some two images open to the history with the commit in doubt, if no finish
+/// is in doubt too, and some two to the copy whose finish is in doubt.
+pub fn a_doubt_may_be_left<D: Disk>(store: &Store<D>)
+    ensures commit { (s : State) (c : Change) → StandsFor D.model store.now s → s.doubt ≡ Some c
+        → s.finish ≡ None
+        → OfSomePair D.model store.now.pair (OpensTo (grown (on_disk s) (c ∷ [])) s.generation) }
+    ensures finish { (s : State) (version : ℕ) → StandsFor D.model store.now s
+        → s.finish ≡ Some version
+        → OfSomePair D.model store.now.pair (OpensTo (rebase s.history version) (s.generation + 1)) }
+{
+    laws(&store.pair);
+    a_crash_may_leave_a_doubt(&store.pair);
+}
+
+/// What two disks may show of a state after a crash is what may be left of it, and so what the machine may recover.
 pub fn what_is_left_is_recovered()
-    ensures { (s : State) (x : Written) → MayShow (on_pair s) x → (h : History) × (generation : ℕ)
-        × Recovers s h generation × (x ≡ history_of generation h) }
+    ensures left { (s : State) (x : Written) → MayShow (on_pair s) x
+        → (h : History) × (generation : ℕ) × MayBeLeft s h generation
+        × (x ≡ history_of generation h) }
+    ensures recovered { (s : State) (h : History) (generation : ℕ) → MayBeLeft s h generation
+        → Recovers s h generation }
 {}
 
 /// What two disks have at the states that a commit, the start of a copy and its finish leave.

@@ -24,7 +24,7 @@ mod store;
 
 pub use disks::Disks;
 pub use laws::{
-    a_standing_store_opens, a_store_opens_one_way, copies_go_on, stores_ask_no_owner,
-    what_disks_have_after, what_is_left_is_recovered, what_was_written_opens,
+    a_doubt_may_be_left, a_standing_store_opens, a_store_opens_one_way, copies_go_on,
+    stores_ask_no_owner, what_disks_have_after, what_is_left_is_recovered, what_was_written_opens,
 };
 pub use store::Store;

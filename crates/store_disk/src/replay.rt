@@ -1,4 +1,5 @@
-//! The entries of a base are put into memory, and the commits of a journal are made again behind them, each as it is read.
+//! Rebuilds the store in memory: the entries of a base are put there, and then the commits of a journal are made again,
+//! each as it is read.
 
 ghost use Rattle.std.specs.Prelude.{◌≡◌, ◌≤◌, ◌⊎◌, ◌++◌, ℕ, [], ◌∷◌, false, IfOk, IsErrOf, List, None, OnOk, true};
 ghost use Rattle.std.specs.List.{AllByRecursion};
@@ -30,15 +31,16 @@ use mol_finish::TextFault;
 use std::alloc::{AllocError, Global};
 use store_core::{CommitFault, MOST_COMMITS, Recorder, Store as Memory};
 
-// The entries beyond as many as there are states at which what the head does not read is dropped.
+// How many commits more than there are states are made before the entries that the head does not read are dropped.
 const SPARE: u32 = 4096;
 
-/// The commits of a journal, from the record on at which it stands, are made in memory behind a base. Each is read, made
-/// and dropped before the next is read. The store keeps what the head reads, and on the way no more than as many entries
-/// again and a few thousand.
+/// Makes the commits of a journal in memory, after the entries of its base, from the record on at which it stands. Each
+/// commit is read, made and dropped before the next is read. Memory holds the entries that the head reads, and on the
+/// way at most as many others and a few thousand more.
 ///
-/// Where an entry or a commit cannot be made, the rest is only read: a journal that is damaged at any place is reported
-/// as that.
+/// `Disk`: a call of the disk failed. `NoMemory`: memory ran out. `Damaged(at)`: the journal is damaged at this place,
+/// or else the base record or the commit there cannot be made. If one cannot be made, the rest is only read, so that
+/// damage to the journal is reported first.
 pub(crate) fn replay<D: Disk>(
     alloc: Global,
     journal: &mut Journal<D>,
@@ -85,9 +87,9 @@ pub(crate) fn replay<D: Disk>(
 struct Rebuild {
     recorder: Recorder,
     memory: Memory,
-    // How many commits were made since what the head does not read was dropped.
+    // The number of commits that were made since the entries that the head does not read were dropped.
     since: u32,
-    // The place of the first entry or commit that could not be made. What follows it is not made.
+    // The place of the first entry or commit that could not be made; none after it is made.
     stopped: Option<u64>,
 }
 
@@ -117,7 +119,7 @@ impl Rebuild {
         }
     }
 
-    // One commit more.
+    // Makes one more commit, if each before it was made.
     fn add(&mut self, commit: Commit) -> Result<(), AllocError>
         requires { IsLogged (logged.change_of commit.wire) }
         ensures { OnOk result ((version : ℕ) (base : List (ℕ × TheEntry))
@@ -130,7 +132,7 @@ impl Rebuild {
         }
     }
 
-    // One commit more, where each before it was made.
+    // Makes one more commit, or notes the place at which it cannot be made.
     fn make(&mut self, commit: &Commit) -> Result<(), AllocError>
         requires logged { IsLogged (logged.change_of commit.now.wire) }
         requires made { self.old.stopped ≡ None }
@@ -151,7 +153,7 @@ impl Rebuild {
         }
     }
 
-    // The store, which takes `commits` commits in all from now on, or the place at which it could not be made.
+    // The store, which takes `commits` commits in all, or the place of what could not be made.
     fn end(self, commits: u32) -> Result<Memory, LoadFault>
         requires { commits ≤ MOST_COMMITS }
         ensures ok { IfOk result (λ memory. (version : ℕ) (base : List (ℕ × TheEntry))
@@ -196,7 +198,7 @@ fn based(
     Ok(memory)
 }
 
-// One entry more, with the place of its record.
+// Puts one more entry, with the place of its record, into memory.
 fn put_entry(
     recorder: &mut Recorder,
     memory: &mut Memory,
@@ -225,13 +227,14 @@ fn put_entry(
     }
 }
 
-// One commit more.
+// Makes one more commit.
 fn add(recorder: &mut Recorder, memory: &mut Memory, commit: &Commit) -> Result<(), LoadFault>
     requires { IsLogged (logged.change_of commit.now.wire) }
     ensures ok { OnOk result ((s : State) → StandsFor memory.old (served s)
         → MayAdd s (told (logged.change_of commit.now.wire))
         × StandsFor memory.new (served (committed s (told (logged.change_of commit.now.wire))))) }
-    ensures damaged { OnDamaged result (λ at. (at ≡ commit.now.at) × ((s : State) → StandsFor memory.old (served s)
+    ensures damaged { OnDamaged result (λ at. (at ≡ commit.now.at)
+        × ((s : State) → StandsFor memory.old (served s)
         → ¬ MayAdd s (told (logged.change_of commit.now.wire)))) }
     ensures no_disk { ¬ IsErrOf result LoadFault.Disk }
     ensures no_other { ¬ IsErrOf result LoadFault.NotAStore }
@@ -255,8 +258,8 @@ fn add(recorder: &mut Recorder, memory: &mut Memory, commit: &Commit) -> Result<
     }
 }
 
-// Drops what the head does not read, where this is the commit after as many as there are states, and a few thousand, since
-// that was done last: so each entry is looked at a few times. It answers how many commits there are since then.
+// Counts one more commit since the entries that the head does not read were dropped, or drops them again, once these
+// commits are more than the states and `SPARE`: so each entry is looked at a few times. Returns the new count.
 fn thinned(memory: &mut Memory, since: u32) -> u32
     ensures { (s : State) → StandsFor memory.old (served s) → s.copy ≡ None → (kept : List Entry)
         × StandsFor memory.new (served (record s { kept = kept })) }
@@ -268,11 +271,11 @@ fn thinned(memory: &mut Memory, since: u32) -> u32
     0
 }
 
-// Drops what the head does not read, and takes so many commits in all from now on.
+// Drops the entries that the head does not read. The store takes `commits` commits in all from now on.
 fn opened(memory: Memory, commits: u32) -> Memory
     requires { commits ≤ MOST_COMMITS }
-    ensures { (s : State) → IsServing memory s → s.copy ≡ None → s.pins ≡ [] → (t : State) × IsServing result t
-        × (t.history ≡ s.history) × IsOpened commits t }
+    ensures { (s : State) → IsServing memory s → s.copy ≡ None → s.pins ≡ []
+        → (t : State) × IsServing result t × (t.history ≡ s.history) × IsOpened commits t }
 {
     let mut memory = memory;
     let _ = memory.prune_but(None);

@@ -18,7 +18,7 @@ use Rattle.store_machine.proofs.Pins.{compact-aside, fetch-same, look-same, stat
 grown-none : (h : History) → grown h [] ≡ h
 grown-none h = ap (λ (cs : List Change). record h { commits = cs }) (append-nil h.commits)
 
-grown-twice : (h : History) (xs ys : List Change) → grown (grown h xs) ys ≡ grown h (xs ++ ys)
+pub grown-twice : (h : History) (xs ys : List Change) → grown (grown h xs) ys ≡ grown h (xs ++ ys)
 grown-twice h xs ys = ap (λ (cs : List Change). record h { commits = cs }) (append_assoc h.commits xs ys)
 
 -- a state's history is that of another with these commits behind it

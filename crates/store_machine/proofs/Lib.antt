@@ -1,3 +1,4 @@
+mod Acknowledged
 mod Ascending
 mod ByCalls
 pub mod Cuts

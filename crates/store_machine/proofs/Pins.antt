@@ -38,7 +38,7 @@ aside s t s' pins history b = (ap (λ (x : State). x.pins) b ∙ pins, ap (λ (x
 
 given-up : (s : State) (doubt : Bool) (s' : State) → GivesUp s doubt s' → IsAside s s'
 given-up s true s' g = aside s (record s { copy = None; finish = Some g.0 }) s' refl refl g.2
-given-up s false s' g = aside s (record s { copy = None; finish = s'.finish }) s' refl refl g.1
+given-up s false s' g = aside s (record s { copy = None; finish = s'.finish }) s' refl refl g.2
 
 pub compact-aside : (s : State) (r : Reply) (s' : State) → CompactGives s r s' → IsAside s s'
 compact-aside s Last s' g = aside s s s' refl refl g.2

@@ -4,7 +4,7 @@ use Rattle.std.proofs.lemmas.Bool.{cond_both, true≢false}
 use Rattle.store_machine.specs.History.{IsAllowed, IsHistory, Snapshot, grown, head, id_of, snapshot}
 use Rattle.store_machine.specs.Kept.{IsNeeded, IsPast, in_use}
 use Rattle.store_machine.specs.Laws.{IsSound, RunsStaySound}
-use Rattle.store_machine.specs.Machine.{AreNeeded, Becomes, CommitGives, CompactGives, CrashGives, DoubtAfter, EndsDoubts, Gives, GivesUp, MayAdd, MayFinish, OpenGives, PinGives, PruneGives, Recovers, SlotsApart, StaysOrEnds, TakesSome, UnpinGives, committed, copying, on_disk, pin_in, pinned, replaced, unpinned}
+use Rattle.store_machine.specs.Machine.{AreNeeded, Becomes, CommitGives, CompactGives, CrashGives, DoubtAfter, EndsDoubts, Gives, GivesUp, IsOfCopy, MayAdd, MayBeLeft, OpenGives, PinGives, PruneGives, Recovers, SlotsApart, StaysOrEnds, TakesSome, UnpinGives, committed, copying, on_disk, pin_in, pinned, replaced, unpinned}
 use Rattle.store_machine.specs.Made.{HasMade, KeepsMade}
 use Rattle.store_machine.specs.declared.machine.Change.{Change}
 use Rattle.store_machine.specs.declared.machine.Copying.{Copying}
@@ -184,8 +184,8 @@ gives-up-sound s true s' g h =
     (doubted t s.doubt (Some g.0) h.doubt (whole-past s (record { version = g.0; left = 0 }) g.1 h) (uncopied s h))
 gives-up-sound s false s' g h =
     let t : State = record s { copy = None } in
-    becomes-sound (record t { finish = s'.finish }) s' g.1
-    (doubted t s.doubt s'.finish h.doubt (ended (IsPast s) s.finish s'.finish g.0 h.bases.finish) (uncopied s h))
+    becomes-sound (record t { finish = s'.finish }) s' g.2
+    (doubted t s.doubt s'.finish h.doubt (ended (IsPast s) s.finish s'.finish g.1 h.bases.finish) (uncopied s h))
 
 takes-sound : (s : State) (old new : Option Copying) → s.copy ≡ old → TakesSome old new → IsSound s
     → IsSound (record s { copy = new })
@@ -253,18 +253,24 @@ doubt-history s c may h =
     IsHistory-pushed (on_disk s) c (disk-history s h) may.0
     (subst (λ (m : Snapshot). IsAllowed m c) (sym same) may.1)
 
-may-past : (s : State) (version : ℕ) → MayFinish s version → IsSound s → IsPast s version
-may-past s version (inl e) h = subst (λ (o : Option ℕ). MatchOption o (Unit {0}) (IsPast s)) e h.bases.finish
-may-past s version (inr e) h = whole-past s (record { version = version; left = 0 }) e h
+copy-history : (s : State) (version : ℕ) (h : History) (generation : ℕ) → IsPast s version
+    → IsOfCopy s version h generation → IsSound s → IsHistory h
+copy-history s version h generation past of sound =
+    subst IsHistory (sym of.0) (rebased s.history version sound.history past.0 past.1)
 
-recovered-history : (s : State) (h : History) (generation : ℕ) → Recovers s h generation → IsSound s → IsHistory h
-recovered-history s h generation (inl e) sound = subst IsHistory (sym e.0) (disk-history s sound)
-recovered-history s h generation (inr (inl d)) sound =
+left-history : (s : State) (h : History) (generation : ℕ) → MayBeLeft s h generation → IsSound s → IsHistory h
+left-history s h generation (inl e) sound = subst IsHistory (sym e.0) (disk-history s sound)
+left-history s h generation (inr (inl d)) sound =
     let may : MayAdd s d.0 = subst (λ o. MatchOption o (Unit {0}) (MayAdd s)) d.1 sound.doubt in
     subst IsHistory (sym d.2) (doubt-history s d.0 may sound)
-recovered-history s h generation (inr (inr f)) sound =
-    let past = may-past s f.0 f.1 sound in
-    subst IsHistory (sym f.2) (rebased s.history f.0 sound.history past.0 past.1)
+left-history s h generation (inr (inr f)) sound =
+    copy-history s f.0 h generation
+    (subst (λ (o : Option ℕ). MatchOption o (Unit {0}) (IsPast s)) f.1 sound.bases.finish) f.2 sound
+
+recovered-history : (s : State) (h : History) (generation : ℕ) → Recovers s h generation → IsSound s → IsHistory h
+recovered-history s h generation (inl left) sound = left-history s h generation left sound
+recovered-history s h generation (inr w) sound =
+    copy-history s w.0 h generation (whole-past s (record { version = w.0; left = 0 }) w.1 sound) w.2 sound
 
 crash-sound : (s : State) (r : Reply) (s' : State) → CrashGives s r s' → IsSound s → IsSound s'
 crash-sound s Crashed s' g h = subst IsSound (sym g.1) (record {

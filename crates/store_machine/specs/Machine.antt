@@ -190,11 +190,16 @@ replaced s version = record s {
   finish = None;
 }
 
+-- a copy runs, or one may start
+abbrev pub MayCopy : State → Type 0
+MayCopy s = s.copy ≡ None → s.generation < LAST_GENERATION
+
 -- it is given up, and its finish is in doubt, or an older one's doubt stays or is ended
 abbrev pub GivesUp : State → Bool → State → Type 0
 GivesUp s true s' = (version : ℕ) × IsWhole s version
     × Becomes (record s { copy = None; finish = Some version }) s'
-GivesUp s false s' = StaysOrEnds s.finish s'.finish × Becomes (record s { copy = None; finish = s'.finish }) s'
+GivesUp s false s' = MayCopy s × StaysOrEnds s.finish s'.finish
+    × Becomes (record s { copy = None; finish = s'.finish }) s'
 
 -- memory ran out: some of the step's items may be written
 abbrev pub TakesSome : Option Copying → Option Copying → Type 0
@@ -212,21 +217,26 @@ CompactGives s NoMemory s' = TakesSome s.copy s'.copy × StaysOrEnds s.finish s'
     × Becomes (record s { copy = s'.copy; finish = s'.finish }) s'
 CompactGives s _ s' = ⊥
 
--- Crash. What the disk that is read has: the history from its base on
+-- What the disk that is read has: the history from its base on
 abbrev pub on_disk : State → History
 on_disk s = rebase s.history s.base
 
--- the copy of a version is on its way to take that disk's place
-abbrev pub MayFinish : State → ℕ → Type 0
-MayFinish s version = (s.finish ≡ Some version) ⊎ IsWhole s version
+-- what the copy of a version has: the history from this version on, in the next generation
+abbrev pub IsOfCopy : State → ℕ → History → ℕ → Type 0
+IsOfCopy s version h generation = (h ≡ rebase s.history version) × (generation ≡ s.generation + 1)
 
--- that history, or this and the commit in doubt; or that of a copy whose finish is in doubt or under way, in the next
--- generation
-abbrev pub Recovers : State → History → ℕ → Type 0
-Recovers s h generation =
+-- What two disks may open to at rest, after a call: what the disk that is read has, or this and the commit in doubt, or
+-- the copy whose finish is in doubt. A copy that runs is never open.
+abbrev pub MayBeLeft : State → History → ℕ → Type 0
+MayBeLeft s h generation =
     ((h ≡ on_disk s) × (generation ≡ s.generation))
     ⊎ (((c : Change) × (s.doubt ≡ Some c) × (h ≡ grown (on_disk s) (c ∷ [])) × (generation ≡ s.generation))
-    ⊎ ((version : ℕ) × MayFinish s version × (h ≡ rebase s.history version) × (generation ≡ s.generation + 1)))
+    ⊎ ((version : ℕ) × (s.finish ≡ Some version) × IsOfCopy s version h generation))
+
+-- Crash. It may come while a copy that lacks nothing takes the disk's place: then that copy too
+abbrev pub Recovers : State → History → ℕ → Type 0
+Recovers s h generation = MayBeLeft s h generation
+    ⊎ ((version : ℕ) × IsWhole s version × IsOfCopy s version h generation)
 
 abbrev pub crashed : State → History → ℕ → State
 crashed s h generation = record s {

@@ -1,5 +1,5 @@
 -- What the replies of a run tell: versions, and the commits that it made.
-use Rattle.std.specs.Prelude.{◌≡◌, ◌⊎◌, ◌++◌, ◌≤◌, Bool, List, [], ◌∷◌, Some, ℕ}
+use Rattle.std.specs.Prelude.{◌≡◌, ◌⊎◌, ◌+◌, ◌++◌, ◌≤◌, Bool, length, List, [], ◌∷◌, Some, ℕ}
 use Rattle.store_machine.specs.History.{grown, head, made_at}
 use Rattle.store_machine.specs.Laws.{IsSound}
 use Rattle.store_machine.specs.Runs.{IsCalm, IsRun, calls_of}
@@ -7,6 +7,7 @@ use Rattle.store_machine.specs.Searches.{KeepsPin}
 use Rattle.store_machine.specs.declared.machine.Change.{Change}
 use Rattle.store_machine.specs.declared.machine.Event.{Event}
 use Rattle.store_machine.specs.declared.machine.Event.TheVariants.{Commit, Pin}
+use Rattle.store_machine.specs.declared.machine.History.{History}
 use Rattle.store_machine.specs.declared.machine.Reply.{Reply}
 use Rattle.store_machine.specs.declared.machine.Reply.TheVariants.{Committed, Counted, Looked, Pinned}
 use Rattle.store_machine.specs.declared.machine.State.{State}
@@ -43,6 +44,16 @@ acknowledged (x ∷ xs) = made x.event x.reply ++ acknowledged xs
 abbrev pub RunsAdd : Type 0
 RunsAdd = (s s' : State) (steps : List Step) → IsRun s steps s' → IsCalm steps
     → s'.history ≡ grown s.history (acknowledged steps)
+
+-- commit k of a history
+abbrev pub IsCommit : History → ℕ → Change → Type 0
+IsCommit h k c = (before more : List Change) × (h.commits ≡ before ++ c ∷ more) × (k ≡ h.version + length before + 1)
+
+-- every commit that was acknowledged as commit k is commit k of the history that the run leaves
+abbrev pub CommitsStand : Type 0
+CommitsStand = (s s' : State) (steps : List Step) (own : ℕ → Bool) (c : Change) (k : ℕ)
+    (before later : List (Event × Reply)) → IsRun s steps s' → IsCalm steps
+    → calls_of own steps ≡ before ++ (Commit c, Committed k) ∷ later → IsCommit s'.history k c
 
 -- no reply tells a version that is not there yet
 abbrev pub ToldIsThere : Type 0

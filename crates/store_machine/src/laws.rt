@@ -5,7 +5,7 @@ ghost use Rattle.store_machine.specs.Openings.{CrashOpens};
 ghost use Rattle.store_machine.specs.Owners.{OwnersAreFree, SoundnessAsksNoOwner};
 ghost use Rattle.store_machine.specs.Rebases.{BasesReadBack, LaterRebasesStand, RebasesGrow, RebasesKeepAllowed, RebasesKeepHeads, RebasesKeepSnapshots, RebasesStay};
 ghost use Rattle.store_machine.specs.Runs.{CalmsJoin, RunsJoin};
-ghost use Rattle.store_machine.specs.Told.{PinsAreNew, RunsAdd, SlotsWereFree, ToldIsThere};
+ghost use Rattle.store_machine.specs.Told.{CommitsStand, PinsAreNew, RunsAdd, SlotsWereFree, ToldIsThere};
 
 /// Later commits change no snapshot.
 pub fn snapshots_stay()
@@ -38,10 +38,11 @@ pub fn runs_grow()
 {}
 
 /// What the calls of a run without a crash tell: the commits that they acknowledge are those that the history grew by,
-/// no version is told that is not there yet, and a pin's slot was free and its version is no older than what its caller
-/// was told before.
+/// and one that was acknowledged as commit k is commit k of the history that the run leaves; no version is told that is
+/// not there yet; a pin's slot was free, and its version is no older than what its caller was told before.
 pub fn replies_tell()
     ensures commits { RunsAdd }
+    ensures stand { CommitsStand }
     ensures versions { ToldIsThere }
     ensures slots { SlotsWereFree }
     ensures pins { PinsAreNew }

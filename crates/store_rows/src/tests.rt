@@ -17,8 +17,8 @@ mod worlds;
 
 // A store in memory of SMILES texts, at most 99, under identifiers from 1 on.
 fn store_of(alloc: Global, texts: &[&[u8]]) -> Result<Store, Fail> {
-    let mut store = Store::fresh(alloc, 100);
-    for id in 1..100_u32 {
+    let mut store = Store::fresh(alloc, 1_000);
+    for id in 1..1_000_u32 {
         if let Some(text) = texts.get(id as usize - 1) {
             let record = Record::make(alloc, id, Format::Smiles, text)?;
             store.commit(Change::Register(record))?;

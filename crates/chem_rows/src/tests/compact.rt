@@ -102,7 +102,7 @@ fn scripts(rt: HostRuntime) -> Result<(), Fail> {
     check_each(&rt, rt.alloc(), SCRIPTS)
 }
 
-// The same store, compacted once: a header, and a base of one record.
+// `ONE_COMMIT` compacted once: a header, and a base of one record.
 const COMPACTED: &[u8] =
     b"ZCHEMDB2\x01\0\0\0\x01\0\0\0\x01\0\0\0\x0d\0\0\0\x04\x01\0\0\0\x01\0\0\0\x01CCO\0";
 
@@ -111,13 +111,13 @@ const TWO_COMMITS: &[u8] =
     b"ZCHEMDB2\x01\0\0\0\x01\0\0\0\x01\0\0\0\x0d\0\0\0\x04\x01\0\0\0\x01\0\0\0\x01CCO\
     Z\x07\0\0\0\x01\x02\0\0\0\x01C\0";
 
-// The same compacted a second time: a header, and a base of two records.
+// `TWO_COMMITS` compacted a second time: a header, and a base of two records.
 const COMPACTED_TWICE: &[u8] =
     b"ZCHEMDB2\x02\0\0\0\x02\0\0\0\x02\0\0\0\x0d\0\0\0\x04\x01\0\0\0\x01\0\0\0\x01CCO\
     \x0b\0\0\0\x04\x02\0\0\0\x02\0\0\0\x01C\0";
 
-// What is on the second disk beside a store of one commit, a script, and what `run` of it leaves: the status, the place of
-// damage, the replies, and what is on both disks.
+// What is on the second disk beside a store of one commit, a script, and what `run` of it leaves: the status, the place
+// of damage, the replies, and what is on both disks.
 type Step = (
     &'static [u8],
     &'static str,
@@ -199,8 +199,8 @@ fn a_store_is_compacted(rt: HostRuntime) -> Result<(), Fail> {
     Ok(())
 }
 
-// The answer of a finish where the disk is stopped after so many calls of it, and the generation of the compaction behind
-// a crash that left the image of this number.
+// The answer of a finish where the disk is stopped after so many calls of it, and the generation of the compaction
+// behind a crash that left the image of this number.
 const FINISHES: &[(&str, &[u32])] = &[
     ("fault disk sure", &[1, 1, 1, 1]),
     ("fault disk sure", &[1, 1, 1, 1]),

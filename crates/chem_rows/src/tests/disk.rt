@@ -87,7 +87,7 @@ const BYTES: &[(&[u8], u8, u64, &str)] = &[
 
 const ABSENT: &str = "refused absent\nstats version 0 live 0 withdrawn 0 kept 0 pins 0\n";
 
-// The same of stores by another hand, where `show 1` is asked first.
+// As `BYTES`, for stores that another hand wrote; `show 1` is asked before `stats`.
 const BY_ANOTHER_HAND: &[(&[u8], u8, u64, &str)] = &[
     // a text that has no structure, and one with a line feed
     (b"ZCHEMDB1Z\x08\0\0\0\x01\x01\0\0\0\x01C(\0", 7, 8, ""),

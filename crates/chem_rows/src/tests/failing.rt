@@ -25,8 +25,8 @@ const TURNS: &[(&str, &str)] = &[
     ),
 ];
 
-// A session over them in these ways has this status, and the replies to those that are taken whole where so many bytes are
-// taken.
+// A session over them in these ways has this status, and the replies to those that are taken whole where so many bytes
+// are taken.
 fn ends<R: Abort + Threads + Wait + Sync>(
     rt: &R,
     alloc: Global,

@@ -133,8 +133,8 @@ const SCRIPTS: &[Script] = &[
         < stats version 3 live 1 withdrawn 1 kept 3 pins 0\n\
         ",
     ),
-    // What is the same is named by the least identifier, in the order of identifiers and not of registration, whatever the
-    // format of its text.
+    // What is the same is named by the least identifier, in the order of identifiers and not of registration, whatever
+    // the format of its text.
     (
         "the least that is the same is named",
         MEM,

@@ -1,5 +1,5 @@
 //! Records of SD files, and their data items.
-use super::{MEM, Made, PLAIN, Piece, Script, answers, check_each, made};
+use super::{MEM, Made, PLAIN, Piece, Script, call, check_each, made, put_by};
 use std::test::Fail;
 
 const SCRIPTS: &[Script] = &[
@@ -238,40 +238,84 @@ pub(super) const MADE: &[Made] = &[
     ),
 ];
 
-// A record with a line that is too long.
-const LONG: &[Piece] = &[(b"0123456789abcdef", 1, 4_097), (b"\n$$$$\n", 1, 1)];
+// A record with a line that is too long, one with more bytes than a text with a structure may have, and one that is
+// registered.
+const LONG: &[Piece] = &[(b"x", 1, 65_537), (b"\n$$$$\n", 1, 1)];
 
-// Pieces, and how often each stands.
-const TOO_MANY: &[(&[Piece], u32)] = &[
-    (&[(b"register-sd 1 258\n", 1, 1)], 1),
-    (LONG, 255),
-    (&[(b"$$$$\n", 1, 1)], 1),
-    (LONG, 1),
-    (&[(b"$$$$\nstats\n", 1, 1)], 1),
+const BIG: &[Piece] = &[
+    (b"x", 1, 65_535),
+    (b"\n", 1, 1),
+    (b"x", 1, 65_535),
+    (b"\n", 1, 1),
+    (b"x", 1, 65_535),
+    (b"\n", 1, 1),
+    (b"x", 1, 65_535),
+    (b"\n\n$$$$\n", 1, 1),
 ];
 
-// The replies to them: the last two records are not read.
-const TOO_MANY_REPLIES: &[Piece] = &[
-    (b"refused long\n", 1, 255),
+const GOOD: &[Piece] = &[
+    (OXYGEN, 1, 1),
+    (b"M  END\n", 1, 1),
+    (b"x", 1, 65_535),
+    (b"\n", 1, 1),
+    (b"x", 1, 65_535),
+    (b"\n", 1, 1),
+    (b"x", 1, 65_176),
+    (b"\n$$$$\n", 1, 1),
+];
+
+// A script: what it is about, its pieces with how often each stands, and its replies.
+type Sum = (
+    &'static str,
+    &'static [(&'static [Piece], u32)],
+    &'static [Piece],
+);
+
+// In a sum a line that is too long counts its bytes, and a text at most 262,145. The texts of one line may have
+// 67,108,864 bytes: 255 times 262,145, 65,538 of a line that is too long, and 196,351 of a record.
+const SUMS: &[Sum] = &[
     (
-        b"refused molfile cut\nrefused sd limit\nrefused sd limit\n\
-        stats version 0 live 0 withdrawn 0 kept 0 pins 0\n",
-        1,
-        1,
+        "lines that are too long count their bytes",
+        &[
+            (&[(b"register-sd 1 257\n", 1, 1)], 1),
+            (LONG, 256),
+            (&[(OXYGEN, 1, 1), (b"M  END\n$$$$\n", 1, 1)], 1),
+        ],
+        &[(b"refused long\n", 1, 256), (b"ok 1\n", 1, 1)],
+    ),
+    (
+        "as many bytes as may be, one byte more, and what follows",
+        &[
+            (&[(b"register-sd 1 261\n", 1, 1)], 1),
+            (BIG, 255),
+            (LONG, 1),
+            (GOOD, 1),
+            (&[(b"$$$$\n\n$$$$\n$$$$\n", 1, 1)], 1),
+            (&[(OXYGEN, 1, 1), (b"M  END\n$$$$\nstats\n", 1, 1)], 1),
+        ],
+        &[
+            (b"refused molfile limit\n", 1, 255),
+            (b"refused long\nok 1\nrefused molfile cut\n", 1, 1),
+            (b"refused sd limit\n", 1, 3),
+            (b"stats version 1 live 1 withdrawn 0 kept 1 pins 0\n", 1, 1),
+        ],
     ),
 ];
 
-// A record with a line that is too long counts 262,145 bytes, and 256 of these are more than 67,108,864.
 #[test]
 fn texts_of_too_many_bytes_are_refused_from_one_on(rt: HostRuntime) -> Result<(), Fail> {
     let alloc = rt.alloc();
-    let mut script = Vec::new(alloc);
-    for &(pieces, times) in TOO_MANY {
-        let text = made(alloc, pieces)?;
-        for _ in 0..times {
-            script.extend_from_slice(&text)?;
+    for &(about, rows, replies) in SUMS {
+        let mut script = Vec::new(alloc);
+        for &(pieces, times) in rows {
+            let text = made(alloc, pieces)?;
+            for _ in 0..times {
+                script.extend_from_slice(&text)?;
+            }
         }
+        let answer = call(&rt, alloc, MEM, script.as_slice(), PLAIN)?;
+        let said = put_by(&answer);
+        assert!(rt; said == made(alloc, replies)?.as_slice(), "{about}");
     }
-    let replies = made(alloc, TOO_MANY_REPLIES)?;
-    answers(&rt, alloc, MEM, &script, PLAIN, 0, &replies)
+    Ok(())
 }

@@ -1,4 +1,4 @@
-//! `serve` over disks in memory: what scripts are answered, and what is on the disks then.
+//! `serve` over disks in memory: the replies to two scripts, and what the disks hold afterwards.
 use super::{Answer, ONE_COMMIT, PLAIN, call_each, disk_of, put_by, run};
 use disk_edge::MemDisk;
 use std::alloc::{AllocError, Global};
@@ -9,7 +9,7 @@ use std::thread::Threads;
 // An empty store.
 const EMPTY: &[u8] = b"ZCHEMDB1\0";
 
-// What two scripts are answered over a first disk, by a store that may have so many commits.
+// `serve` of two scripts over this first disk and an empty second one; the store takes `commits` commits at most.
 fn serve_two<R: Threads + Wait + Sync>(
     rt: &R,
     alloc: Global,
@@ -22,7 +22,7 @@ fn serve_two<R: Threads + Wait + Sync>(
     call_each(rt, alloc, &words, scripts, PLAIN, disks)
 }
 
-// What was put to the end of a number.
+// The replies to the end of this number; none if there is no such end.
 fn put_to(answer: &Answer, number: usize) -> &[u8] {
     match answer.ends.get(number) {
         Some(end) => end.sink.bytes(),
@@ -30,7 +30,7 @@ fn put_to(answer: &Answer, number: usize) -> &[u8] {
     }
 }
 
-// A store that may have one commit, and has it, is full for both ends.
+// A store that has all the commits that it may have refuses each registration of both ends.
 #[test]
 fn a_full_store_takes_of_no_end(rt: HostRuntime) -> Result<(), Fail> {
     let alloc = rt.alloc();
@@ -53,7 +53,7 @@ fn a_full_store_takes_of_no_end(rt: HostRuntime) -> Result<(), Fail> {
     Ok(())
 }
 
-// The version that an end was told for its registration, as a digit, if it was acknowledged.
+// The version in the `ok` of an end, as a digit. `None` if its registration was not acknowledged.
 fn told(answer: &Answer, number: usize) -> Option<u8> {
     let reply = put_to(answer, number);
     if reply.starts_with(b"ok ") {
@@ -63,7 +63,7 @@ fn told(answer: &Answer, number: usize) -> Option<u8> {
     }
 }
 
-// Whether a line shows what an end was told: a record of this version, if it was acknowledged.
+// Whether the reply to a `show` is a record of this version. Without a version any reply will do.
 fn shows(line: &[u8], version: Option<u8>) -> bool {
     match version {
         Some(digit) => line.starts_with(b"record ") && line.get(17) == Some(&digit),
@@ -71,8 +71,8 @@ fn shows(line: &[u8], version: Option<u8>) -> bool {
     }
 }
 
-// How many of two ends were acknowledged, at least one. `None` if one was answered anything else than `ok` or a disk
-// fault.
+// The number of ends whose registration was answered `ok`, of two. `None` if that is 0, or if a reply is neither `ok`
+// nor a fault of the disk.
 fn acknowledged(answer: &Answer) -> Option<usize> {
     let mut faults = 0_usize;
     for number in 0..2 {
@@ -86,8 +86,9 @@ fn acknowledged(answer: &Answer) -> Option<usize> {
     2_usize.checked_sub(faults).filter(|sure| *sure > 0)
 }
 
-// How many of two registrations, one by each end, were acknowledged over a disk whose call of this number fails, if the
-// image of this number loads to them. If the store was not loaded, none was, and nothing may have been put.
+// Each of two ends registers a structure over a disk whose call of this number fails; then the disk loses power, and
+// `image` is what it holds. Returns the number of registrations that were acknowledged if they are there after that,
+// and `None` if one is missing. Where the first opening failed, it returns 0 if no end had a reply.
 fn kept<R: Threads + Wait + Sync>(
     rt: &R,
     alloc: Global,
@@ -121,7 +122,7 @@ fn kept<R: Threads + Wait + Sync>(
     })
 }
 
-// No call of that number is made: both are acknowledged.
+// More calls than are made, so that none fails.
 const NEVER: u64 = 1_000;
 
 #[test]

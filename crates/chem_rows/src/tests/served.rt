@@ -2,6 +2,7 @@
 //!
 //! Ends and searches wait for each other by how much has happened so far: each reply that was put and each search that
 //! began to match counts one. A wait gives up after 10,000,000 turns, which fails the test.
+ghost use Rattle.std.specs.Prelude.{◌≤◌};
 
 use hall::Hall;
 use io_edge::{MemSink, MemSource, PutFault, Sink, Source, Take};
@@ -9,11 +10,13 @@ use par_search::Meter;
 use serve_ends::{DONE, End, MOST_ENDS, serve_ends};
 use session_run::Settings;
 use std::alloc::{AllocError, Global};
+use std::snapshot::Snapshot;
 use std::sync::atomic::{AtomicU32, Ordering};
 use std::sync::{Arc, Wait};
 use std::test::Fail;
 use std::thread;
 use std::thread::Threads;
+use store_core::Service;
 use store_disk::Store;
 
 // How much has happened so far, and how many waits gave up.
@@ -138,31 +141,37 @@ fn end(
     })
 }
 
-// Serves ends over an empty store. Answers them, and how many commits the store has then, where no wait gave up.
+// Serves ends over an empty store. Returns them, and how many commits the store has then, if no wait gave up and each
+// pin was given back.
 fn serve<R: Threads + Wait + Sync>(
     rt: &R,
     alloc: Global,
     ends: Vec<End<Asker, Teller>>,
+    workers: u32,
     meeting: &Meeting,
-) -> Result<(Vec<End<Asker, Teller>>, Option<u32>), Fail> {
+) -> Result<(Vec<End<Asker, Teller>>, Option<u32>), Fail>
+    requires some { 1 ≤ workers }
+    requires few { workers ≤ 16 }
+{
     if ends.is_empty() || ends.len() > MOST_ENDS {
         return Err(Fail::new("not so many ends"));
     }
     let store = Store::fresh(alloc, 1_000)?;
-    let (hall, mut pass) = match Hall::start(alloc, store) {
+    let (hall, mut pass) = match Hall::start(alloc, store, Snapshot::of(&true)) {
         Ok(made) => made,
         Err((failed, _)) => return Err(Fail::from(failed)),
     };
     let settings = Settings {
-        workers: 1,
-        page: 8,
+        workers,
+        page: 256,
         input_limit: 10_000,
     };
     let (ends, answer) = serve_ends(rt, alloc, &hall, &mut pass, ends, &settings, meeting);
-    let commits = hall.close(pass).version();
+    let stats = hall.close(pass).stats()?;
     answer?;
     let gave_up = meeting.gave_up.load(Ordering::SeqCst);
-    Ok((ends, (gave_up == 0).then_some(commits)))
+    let is_whole = gave_up == 0 && stats.pins == 0;
+    Ok((ends, is_whole.then_some(stats.version)))
 }
 
 // An end that registers methane under identifiers from a first to a last, and then shows the last. It gives its second
@@ -244,7 +253,7 @@ fn serves<R: Threads + Wait + Sync>(
         let (first, last) = identifiers(number, each);
         ends.push(registering(alloc, first, last, count, &meeting)?)?;
     }
-    let (ends, version) = serve(rt, alloc, ends, &meeting)?;
+    let (ends, version) = serve(rt, alloc, ends, 1, &meeting)?;
     let mut holds = version == Some(commits);
     for (number, end) in (0..count).zip(&ends) {
         let (_, last) = identifiers(number, each);
@@ -333,7 +342,7 @@ fn replies_are<R: Threads + Wait + Sync>(
     for (script, _) in rows {
         ends.push(end(alloc, *script, &meeting)?)?;
     }
-    let (ends, version) = serve(rt, alloc, ends, &meeting)?;
+    let (ends, version) = serve(rt, alloc, ends, 1, &meeting)?;
     let mut holds = version.is_some();
     for (end, (_, replies)) in ends.iter().zip(rows) {
         holds &= end.status == DONE && end.sink.text.bytes() == replies.as_bytes();
@@ -349,6 +358,70 @@ fn an_end_sees_its_version_while_another_commits(rt: HostRuntime) -> Result<(), 
         assert!(rt;
             replies_are(&rt, rt.alloc(), search_until, rows)?,
             "until {search_until}"
+        );
+    }
+    Ok(())
+}
+
+// The first half of what a search with two workers tries is held until its other half has begun, behind 128 replies.
+#[test]
+fn two_workers_search_in_two_threads(rt: HostRuntime) -> Result<(), Fail> {
+    let alloc = rt.alloc();
+    let meeting = Arc::new(alloc, Meeting::new(130))?;
+    let mut lines = String::new(alloc);
+    for id in 1..129_u32 {
+        lines.push_str(format!(in alloc; "register {id} C\n")?.as_str())?;
+    }
+    let script = Script {
+        lines_after: 0,
+        lines: lines.as_str(),
+        rest_after: 128,
+        rest: "search C\n",
+    };
+    let ends = vec![in alloc; end(alloc, script, &meeting)?]?;
+    let (ends, version) = serve(&rt, alloc, ends, 2, &meeting)?;
+    assert_eq!(rt; version, Some(128));
+    for end in &ends {
+        assert!(rt;
+            end.sink
+                .text
+                .bytes()
+                .ends_with(b"end at 128 tried 128 hits 128\n")
+        );
+    }
+    Ok(())
+}
+
+// Four cursors of an end.
+const OPENS: &str = "open a C\nopen b C\nopen c C\nopen d C\n";
+
+// What an end is answered that opens four, and what the first end is answered that then searches.
+const OPENED: &str = "opened 0\nopened 0\nopened 0\nopened 0\n";
+
+const NO_PIN_IS_LEFT: &str = "opened 0\nopened 0\nopened 0\nopened 0\nrefused pins\n";
+
+// Sixteen ends have 64 cursors, so a search is refused. They close none: each end's pins are given back as it ends.
+#[test]
+fn ends_leave_their_cursors_open(rt: HostRuntime) -> Result<(), Fail> {
+    let alloc = rt.alloc();
+    let meeting = Arc::new(alloc, Meeting::new(0))?;
+    let mut ends = Vec::new(alloc);
+    for number in 0..16_u32 {
+        let script = Script {
+            lines_after: 0,
+            lines: OPENS,
+            rest_after: if number == 0 { 64 } else { 65 },
+            rest: if number == 0 { "search C\n" } else { "" },
+        };
+        ends.push(end(alloc, script, &meeting)?)?;
+    }
+    let (ends, version) = serve(&rt, alloc, ends, 1, &meeting)?;
+    assert_eq!(rt; version, Some(0));
+    for (number, end) in ends.iter().enumerate() {
+        let replies = if number == 0 { NO_PIN_IS_LEFT } else { OPENED };
+        assert!(rt;
+            end.status == DONE && end.sink.text.bytes() == replies.as_bytes(),
+            "end {number}"
         );
     }
     Ok(())

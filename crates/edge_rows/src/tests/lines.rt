@@ -18,7 +18,7 @@ fn answers<S: Source>(alloc: Global, source: &mut S, limit: u64) -> Result<Vec<u
                 said.extend_from_slice(lines.text())?;
                 said.push(b'|')?;
             }
-            Ok(Line::Long) => said.extend_from_slice(b"L|")?,
+            Ok(Line::Long { .. }) => said.extend_from_slice(b"L|")?,
             Ok(Line::End) => {
                 said.push(b'.')?;
                 break;

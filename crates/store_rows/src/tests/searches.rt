@@ -51,16 +51,17 @@ fn three_records_come_by_pages_of_two(rt: HostRuntime) -> Result<(), Fail> {
 }
 
 // Appends the hits of the next pages. Answers from where the search goes on, and how many records were tried.
-fn add_next<R: Threads + Sync>(
+fn add_next<R: Threads + Sync, M: Meter>(
     rt: &R,
     store: &mut Store,
     search: &mut Search,
+    meter: &M,
     all: &mut Vec<u32>,
 ) -> Result<(Option<u32>, u32), AllocError>
     requires { HoldsPin store.old search.old.slot search.old.version }
     ensures { HoldsPin store.new search.new.slot search.new.version }
 {
-    let batch = search.next_pages(rt, store, &NoMeter);
+    let batch = search.next_pages(rt, store, meter);
     if batch.fault.is_some() {
         return Err(AllocError);
     }
@@ -98,7 +99,7 @@ fn has_thirds<R: Threads + Sync>(
     let mut all = Vec::new(alloc);
     let mut are_told = true;
     for step in steps {
-        are_told &= add_next(rt, store, &mut search, &mut all)? == *step;
+        are_told &= add_next(rt, store, &mut search, &NoMeter, &mut all)? == *step;
     }
     search.close(store)?;
     let thirds = [3, 6, 9, 12, 15, 18, 21, 24, 27, 30, 33, 36, 39];
@@ -163,6 +164,81 @@ fn two_pieces_are_matched_at_once(rt: HostRuntime) -> Result<(), Fail> {
     assert!(rt; is_next(&rt, &mut store, &mut search, &meeting, &[1, 2], 2, true));
     assert_eq!(rt; meeting.alone.load(Ordering::SeqCst), 0);
     assert!(rt; search.close(&mut store).is_ok());
+    Ok(())
+}
+
+// Holds the first piece of each group until another piece of the group has begun, up to a limit.
+#[derive(Drop)]
+struct Groups {
+    // how many pieces a group has besides its first
+    others: u32,
+    firsts_begun: AtomicU32,
+    others_begun: AtomicU32,
+    alone: AtomicU32,
+}
+
+impl Meter for Groups {
+    fn begin(&self, piece: u32) {
+        if piece > 0 {
+            self.others_begun.fetch_add(1, Ordering::SeqCst);
+            return;
+        }
+        let before = self.firsts_begun.fetch_add(1, Ordering::SeqCst);
+        for _turn in 0..10_000_000 {
+            if self.others_begun.load(Ordering::SeqCst) > before.saturating_mul(self.others) {
+                return;
+            }
+            thread::yield_now();
+        }
+        self.alone.fetch_add(1, Ordering::SeqCst);
+    }
+}
+
+// How many records a search for methane tried by this many workers in pages of 24, in how many groups, and how many of
+// these were matched in one thread.
+fn groups_of<R: Threads + Sync>(
+    rt: &R,
+    alloc: Global,
+    store: &mut Store,
+    workers: u32,
+) -> Result<(u32, u32, u32), Fail>
+    requires some { 2 ≤ workers }
+    requires few { workers ≤ 16 }
+{
+    let groups = Groups {
+        others: workers - 1,
+        firsts_begun: AtomicU32::new(0),
+        others_begun: AtomicU32::new(0),
+        alone: AtomicU32::new(0),
+    };
+    let pattern = parse(alloc, b"C")?;
+    let Ok(mut search) = Search::start_batched(alloc, store, pattern, workers, 24, 32) else {
+        return Err(Fail::new("not begun"));
+    };
+    let mut all = Vec::new(alloc);
+    let (_, tried) = add_next(rt, store, &mut search, &groups, &mut all)?;
+    search.close(store)?;
+    Ok((
+        tried,
+        groups.firsts_begun.load(Ordering::SeqCst),
+        groups.alone.load(Ordering::SeqCst),
+    ))
+}
+
+const SEVERAL: &[u32] = &[2, 3];
+
+// Sixteen pages are matched in two groups of 192 records, each in a piece for each worker.
+#[test]
+fn the_pieces_of_a_group_are_matched_at_once(rt: HostRuntime) -> Result<(), Fail> {
+    let methanes: [&[u8]; 384] = [b"C"; 384];
+    let mut store = store_of(rt.alloc(), &methanes)?;
+    for &workers in SEVERAL {
+        assert_eq!(rt;
+            groups_of(&rt, rt.alloc(), &mut store, workers)?,
+            (384, 2, 0),
+            "{workers} workers"
+        );
+    }
     Ok(())
 }
 

@@ -1,11 +1,11 @@
-use Rattle.std.proofs.Common.{◌≡◌, ◌∙◌, OnErr, OnOk, map, refl, ap, sym, subst, inr}
+use Rattle.std.proofs.Common.{◌≡◌, ◌∙◌, Bool, OnErr, OnOk, map, refl, ap, sym, subst, inr}
 use Rattle.disk_pair.specs.Term.{Paired, disk_a, disk_b}
 use Rattle.journal_core.specs.Looks.{Narrows}
 use Rattle.session_run.specs.Servable.{IsServable}
 use Rattle.session_run.specs.declared.settings.Settings.{Settings}
 use Rattle.serve_ends.specs.Serving.{Serving}
 use Rattle.store_disk.specs.OnDisk.{StoreTerm}
-use Rattle.hall.specs.Passes.{Ends}
+use Rattle.hall.specs.Passes.{Begins, Ends}
 use Rattle.hall.specs.declared.hall.HallPass.{HallPass}
 use Rattle.chem_shell.specs.Ends.{with_status}
 use Rattle.chem_shell.specs.OnDisks.{ServesOn}
@@ -18,7 +18,9 @@ use Rattle.chem_shell.proofs.serve.serve_loaded.Goals as goal
 pub start-requires : goal.start-requires
 start-requires g c =
     let o = c.requires.standing in
-    record { stands = (o.0, o.1, (c.args.plan.now.commits, o.2)) }
+    record {
+      stands = (o.0, o.1, record { pins = o.2.pins; opened = λ _. (c.args.plan.now.commits, o.2) });
+    }
 
 pub serve_ends-ends-requires-clause-servable : goal.serve_ends-ends-requires-clause-servable
 serve_ends-ends-requires-clause-servable g c _ _ = subst IsServable (sym c.settings.ensures) c.requires.plan.servable
@@ -38,11 +40,13 @@ returns-in-Ok-served g c = λ disks read_a read_b.
     (subst (λ (settings : Settings). Serving g.S.Source g.K.Sink settings c.in-Ok.pass new c.args.ends.items
     c.serve_ends-ends.result.0.items) c.settings.ensures given) in
     let o = c.requires.standing in
+    let begins : Begins d c.args.store true c.in-Ok.pass =
+    subst (λ (o : Bool). Begins d c.args.store o c.in-Ok.pass) c.of.ensures c.in-Ok.ensures.begins in
     let here = g.met.D.Disk g.world.𝓛 g.world.𝓜 g.world.𝓡 ((λ s x. x), (λ x. x), (λ x. x), λ x. x) in
     let on = serves_on d g.S.Source g.K.Sink c.replies_tell.ensures.commits c.runs_stay_sound.ensures
     c.rebases_keep.ensures.grown c.rebases_keep.ensures.stays c.services_are_true.ensures
     here.content_is_image c.args.plan.now disks c.args.store c.a_standing_store_opens.ensures o.0 o.1 o.2 read_a
-    read_b c.in-Ok.pass c.in-Ok.ensures.begins c.close-store.result c.a_standing_store_opens-in-Ok.ensures new
+    read_b c.in-Ok.pass begins c.close-store.result c.a_standing_store_opens-in-Ok.ensures new
     c.into_disks-disks.result c.args.ends.items r.ends.items c.close-store.ensures serving c.into_disks-disks.ensures.a
     c.into_disks-disks.ensures.b in
     let causes = end_causes g.S.Source g.K.Sink c.args.plan.now c.args.ends.items r.ends.items serving.count
@@ -60,7 +64,9 @@ returns-in-Err-served g c = λ disks read_a read_b.
     subst (λ x. OnErr x ((c.serve_ends-ends.new.pass ≡ c.in-Ok.pass) × (c.serve_ends-ends.result.0 ≡ c.args.ends)))
     c.in-Err-served.is c.serve_ends-ends.ensures.memory in
     let closed = subst (λ (p : HallPass _). Ends d p c.close-store.result) kept.0 c.close-store.ensures in
-    let same = unserved_pair d c.args.store c.in-Ok.pass c.in-Ok.ensures.begins c.close-store.result closed in
+    let begins : Begins d c.args.store true c.in-Ok.pass =
+    subst (λ (o : Bool). Begins d c.args.store o c.in-Ok.pass) c.of.ensures c.in-Ok.ensures.begins in
+    let same = unserved_pair d c.args.store c.in-Ok.pass begins c.close-store.result closed in
     let back = c.into_disks-disks.ensures in
     refused_by g.D.Disk.model g.S.Source.left g.S.Source.faults g.K.Sink.written g.K.Sink.faults c.args.plan.now
     disks c.into_disks-disks.result c.args.ends.items c.unserved.result 8 0 c.requires.verb (inr (inr (inr refl)))

@@ -1,11 +1,11 @@
-use Rattle.std.proofs.Common.{[], Err, Ok, refl}
+use Rattle.std.proofs.Common.{[], Ok}
 use Rattle.smarts_parse.specs.Pattern.{pattern_of}
 use Rattle.par_search.specs.declared.fault.SearchFault.TheVariants.{NoMemory}
 use Rattle.lookup.specs.Fetches.{Looked}
 use Rattle.lookup.specs.Lists.{IsHitList}
 use Rattle.par_search.proofs.Joined.{makes-none}
 use Rattle.lookup.proofs.Listed.{hit-list}
-use Rattle.lookup.proofs.Looked.{looked-fault, looked-none, looked-passed, looked-some, looks-listed, looks-short, looks-unasked}
+use Rattle.lookup.proofs.Looked.{looked-fault, looked-none, looked-passed, looked-some, looked-unasked, looks-listed, short-anew}
 use Rattle.lookup.proofs.hits.find_newer_hits.Goals as goal
 
 pub returns-in_err-matches-clause-looks : goal.returns-in_err-matches-clause-looks
@@ -13,8 +13,8 @@ returns-in_err-matches-clause-looks g c =
     let is = IsHitList (pattern_of c.args.pattern.now) in (
       c.need-want.result,
       c.need-want.ensures,
-      looked-passed is NoMemory c.from_residual.result c.from_residual.ensures.1
-          (looks-unasked is (Err NoMemory) refl (makes-none g.met.S.Service.stays c.args.service.now)),
+      looked-unasked is c.from_residual.result c.from_residual.ensures.1
+          (makes-none g.met.S.Service.stays c.args.service.now),
     )
 
 pub returns-in_err-seen-clause-looks : goal.returns-in_err-seen-clause-looks
@@ -40,7 +40,7 @@ returns-in_err-list-clause-looks g c =
       c.need-want.ensures,
       looked-passed is NoMemory c.from_residual-in_err-list.result
           (rw c.in_err-list.ensures.fault at c.from_residual-in_err-list.ensures.1)
-          (looks-short is (looked-some (rw c.in-Some.is at c.in_ok-seen.ensures.looks))),
+          (short-anew is (looked-some (rw c.in-Some.is at c.in_ok-seen.ensures.looks))),
     )
 
 pub returns-clause-looks : goal.returns-clause-looks

@@ -41,7 +41,7 @@ returns-clause-looks g c =
     let pinned = pinned_from g.S.Service c.args.service.now c.pin.new.self p
     (record { made = rw is at c.in_ok-pin.ensures.call }) (rw is at c.in_ok-pin.ensures.held)
     (rw is at c.in_ok-pin.ensures.apart) c.in_ok-pin.ensures.bounds in
-    looks-is (c.see_pinned.ensures.looks c.args.service.now pinned)
+    looks-is (c.see_pinned.ensures.looks c.args.service.now pinned).0
     (SeenAll g.V.Visit.has_seen c.args.given.now c.args.visitor.now c.see_pinned.new.visitor)
     (λ version records seen h. (h.1, h.2, h.3))
 

@@ -6,6 +6,7 @@ returns c = searches-are-hits (record {
   snapshots = c.snapshots_stay.ensures;
   commits = c.commits_change.ensures;
   add = c.replies_tell.ensures.commits;
+  stand = c.replies_tell.ensures.stand;
   grow = c.runs_grow.ensures;
   slots = c.replies_tell.ensures.slots;
   pins = c.replies_tell.ensures.pins;

@@ -44,10 +44,10 @@ returns-in_ok-molfile-in-Some-Molfile-clause-reads g c =
 pub returns-in-Long-clause-takes : goal.returns-in-Long-clause-takes
 returns-in-Long-clause-takes g c =
     let is = rw c.in-Long.is at c.in_ok-read_line.ensures.line in (
-      record { line = TooLong; more = [] },
+      record { line = TooLong c.in-Long.size; more = [] },
       λ l l' got p q split h rest met.
           (lines_left c.read_line.new.lines rest, is l l' got p q split h rest met, inl (record { no_molfile = λ e. e; no_records = λ count e. e }, refl, refl)),
-      is_long_line,
+      is_long_line c.in-Long.size,
     )
 
 pub returns-in-None-clause-takes : goal.returns-in-None-clause-takes

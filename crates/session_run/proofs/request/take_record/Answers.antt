@@ -4,9 +4,7 @@ use Rattle.std.specs.Str.{bytes_eq}
 use Rattle.io_edge.specs.Lines.{TooLong, Whole}
 use Rattle.session_run.specs.Requests.{ends_record}
 use Rattle.session_run.specs.Taken.{record_of}
-use Rattle.session_run.specs.declared.records.Part.TheVariants as parts
 use Rattle.session_run.proofs.Ordered.{IsAny, one_ended, one_line, one_none, one_open, one_part}
-use Rattle.session_run.proofs.Recorded.{long_now}
 use Rattle.session_run.proofs.Taking.{reads_more, reads_none}
 use Rattle.session_run.proofs.request.take_record.Goals as goal
 
@@ -79,8 +77,9 @@ loop-part-preserved-in-Long g c =
     let u = c.loop-part.invariant.taking in
     record {
       taking = one_line _ _ _ _ _ _ c.args.lines.now c.loop-part.lines c.read_line.new.lines c.loop-part.text.items
-          c.loop-part.text.items c.loop-part.part parts.Long c.loop-part.some TooLong u c.loop-part.invariant.reads
-          line.reads refl (rw c.in-Long.is at line.line) (long_now u.lines);
+          c.loop-part.text.items c.loop-part.part c.with_long-part.result c.loop-part.some (TooLong c.in-Long.size) u
+          c.loop-part.invariant.reads line.reads refl (rw c.in-Long.is at line.line)
+          (c.with_long-part.ensures u.lines c.loop-part.text.items (rw c.deref.ensures.value u.is));
       reads = reads_more _ _ _ _ _ _ c.args.lines.now c.loop-part.lines c.read_line.new.lines
           c.loop-part.invariant.reads line.reads;
     }

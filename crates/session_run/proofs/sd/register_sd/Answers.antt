@@ -5,8 +5,13 @@ use Rattle.store_core.specs.Records.{Shared}
 use Rattle.session_run.specs.Standings.{watched_all}
 use Rattle.session_run.specs.Taken.{AreRead}
 use Rattle.session_run.proofs.Joined.{uses-none}
-use Rattle.session_run.proofs.Registered.{IsAt, at_end, at_more, at_none, at_stopped, each_done, popped}
+use Rattle.session_run.proofs.Registered.{IsAt, at_end, at_more, at_none, at_stopped, each_done, none_done, popped}
 use Rattle.session_run.proofs.sd.register_sd.Goals as goal
+
+pub returns-then-is_err : goal.returns-then-is_err
+returns-then-is_err g c = λ records e taken size cursors.
+    each_done c.args.first records size cursors
+    (none_done c.args.first records (uses-none g.met.S.Service.stays c.args.service.now))
 
 pub loop-place-init : goal.loop-place-init
 loop-place-init g c =
@@ -16,9 +21,12 @@ loop-place-init g c =
     c.read_all-made.ensures in
     record {
       goes = λ records e taken.
-          at_none g.S.Service c.args.service.now c.args.first records c.args.texts.now
+          subst (λ (o : List ℕ). IsAt g.S.Service c.args.service.now c.args.service.now c.args.first records
+          c.args.texts.now (watched_all c.args.watches.now.watches) (watched_all c.args.watches.now.watches)
+          c.args.out.now.items o 0 (into_iter_items c.into_iter-answers.result)) (sym c.reserve.ensures.items)
+          (at_none g.S.Service c.args.service.now c.args.first records c.args.texts.now
           (watched_all c.args.watches.now.watches) c.args.out.now.items
-          (into_iter_items c.into_iter-answers.result) (uses-none g.met.S.Service.stays c.args.service.now) taken read;
+          (into_iter_items c.into_iter-answers.result) (uses-none g.met.S.Service.stays c.args.service.now) taken read);
       len = c.into_iter-answers.ensures.len
           ∙ (c.read_all-made.result.ok.0 ∙ ap (λ (l : List (Result Shared TextFault)). length l) (sym items));
     }

@@ -1,11 +1,12 @@
-use Rattle.std.proofs.Common.{[], refl}
+use Rattle.std.proofs.Common.{[], refl, subst, ℕ}
+use Rattle.lookup.specs.Fetches.{IsAnew}
 use Rattle.lookup.proofs.Looked.{looked-fault, looked-some}
 use Rattle.shell_lang.specs.Reply as line
 use Rattle.shell_lang.specs.declared.reply.Refusal.TheVariants as refusals
 use Rattle.session_run.specs.Acts.{Fault, Refused}
 use Rattle.session_run.proofs.Joined.{uses-none}
 use Rattle.session_run.proofs.Lines.{said}
-use Rattle.session_run.proofs.Looked.{looked_in_vain, looked_whole, new_pinless}
+use Rattle.session_run.proofs.Looked.{looked_so, looked_whole, new_pinless}
 use Rattle.session_run.proofs.Standing.{rests}
 use Rattle.session_run.proofs.Viewed.{hits_answered, hits_known, need_seen, view_absent, view_seen}
 use Rattle.session_run.proofs.Watched.{hits_lost}
@@ -41,7 +42,10 @@ pub returns-in-Err : goal.returns-in-Err
 returns-in-Err g c here =
     let seen = view_seen c.args.name.now c.args.watches.now.watches c.in-Some.kept c.in-Some.ensures.view in
     let looks = c.in-Err.ensures.looks in
-    looked_in_vain (new_pinless (refl, seen.taken)) (rests Fault tt)
-    (hits_lost c.args.name.now seen.w seen.named refl (need_seen c.args.name.now c.in-Some.kept seen looks.1))
-    c.in-Err.fault c.fault_line.result c.say_given.result (looked-fault looks.2) c.find_newer_hits.ensures.bounds
+    let l = looked-fault looks.2 in
+    looked_so (new_pinless (refl, seen.taken)) (rests Fault tt) (IsAnew c.in-Some.kept.version)
+    (λ place calls up anew. hits_lost c.args.name.now seen.w seen.named refl
+    (need_seen c.args.name.now c.in-Some.kept seen looks.1) place calls up
+    (subst (λ (v : ℕ). IsAnew v up.version up.pages) seen.version_is anew))
+    c.in-Err.fault c.fault_line.result c.say_given.result l.0 l.1 c.find_newer_hits.ensures.bounds
     c.fault_line.ensures c.say_given.ensures

@@ -4,6 +4,7 @@ use Rattle.shell_lang.specs.Reply as line
 use Rattle.shell_lang.specs.Reply.{reply_of}
 use Rattle.shell_lang.specs.declared.reply.Refusal.TheVariants as refusals
 use Rattle.smarts_parse.specs.Pattern.{pattern_of}
+use Rattle.watch_list.specs.declared.list.TheConstants.{MOST_WATCHES}
 use Rattle.session_run.specs.Acts.{Fault, MayWatch, Refused}
 use Rattle.session_run.specs.Standings.{watched, watched_all}
 use Rattle.session_run.proofs.Joined.{uses-none}
@@ -65,8 +66,8 @@ returns-in-Err-find_hits g c here =
     let looks = c.in-Err-find_hits.ensures.looks in
     let none = view_none c.args.name.now c.args.watches.now.watches c.find_watch.result c.find_watch.ensures.view c.is_some.result
     c.is_some.ensures c.if-is_some.false in
-    let few : length (watched_all c.args.watches.now.watches) < 16 =
+    let few : length (watched_all c.args.watches.now.watches) < MOST_WATCHES =
     omega (arith, length-map c.args.watches.now.watches watched, c.len-is_full.ensures, c.if-is_full.false) in
     looked_in_vain (new_pinless (refl, pattern, c.in-Ok.ensures.pattern, none, few)) (rests Fault tt)
-    (watch_lost c.args.name.now pattern (refl, c.in-Ok.ensures.pattern) looks.1) c.in-Err-find_hits.fault
+    (watch_lost c.args.name.now pattern (refl, c.in-Ok.ensures.pattern) none few looks.1) c.in-Err-find_hits.fault
     c.fault_line.result c.say_given.result looks.2 c.find_hits.ensures.bounds c.fault_line.ensures c.say_given.ensures

@@ -1,5 +1,9 @@
-use Rattle.store_disk.proofs.OnDisks.{shown-recovered}
+use Rattle.std.proofs.Common.{inl}
+use Rattle.store_disk.proofs.OnDisks.{shown-left}
 use Rattle.store_disk.proofs.laws.what_is_left_is_recovered.Goals as goal
 
-pub returns : goal.returns
-returns c = shown-recovered
+pub returns-clause-left : goal.returns-clause-left
+returns-clause-left c = shown-left
+
+pub returns-clause-recovered : goal.returns-clause-recovered
+returns-clause-recovered c = λ s h generation left. inl left

@@ -7,6 +7,10 @@ use Rattle.par_search.proofs.Joining.{joined-few, shares-joined}
 use Rattle.par_search.proofs.Matched.{matched-append}
 use Rattle.par_search.proofs.find.Shares.match_beside.Goals as goal
 
+pub find_beside-done-requires-clause-room : goal.find_beside-done-requires-clause-room
+find_beside-done-requires-clause-room g c κs within k d less =
+    omega (arith, c.requires.few, c.requires.can_match.share k d less)
+
 pub add_all_hits-requires : goal.add_all_hits-requires
 add_all_hits-requires g c =
     let self = c.args.self.now in
@@ -15,7 +19,7 @@ add_all_hits-requires g c =
     let new = c.find_beside-done.new.workers in
     let can = c.requires.can_match in
     let few = joined-few p records (hits_in new) (shares-joined p self.total self.size records c.args.workers.now
-    new can.total c.requires.size c.find_beside-done.auto.workers can.some c.find_beside-done.ensures.found) in
+    new can.total c.requires.all c.find_beside-done.auto.workers can.some c.find_beside-done.ensures.found) in
     record { room = omega (arith, few, can.total, can.hits) }
 
 pub returns-clause-matched : goal.returns-clause-matched
@@ -26,7 +30,7 @@ returns-clause-matched g c =
     let new = c.find_beside-done.new.workers in
     let can = c.requires.can_match in
     let all = shares-joined p self.total self.size records c.args.workers.now new can.total
-    c.requires.size c.find_beside-done.auto.workers can.some c.find_beside-done.ensures.found in
+    c.requires.all c.find_beside-done.auto.workers can.some c.find_beside-done.ensures.found in
     record {
       matched = λ before m.
           subst (λ (l : List ℕ). AreMatched p (before ++ founds records) l)

@@ -10,7 +10,17 @@ returns-then-is_met_by g c =
     let want = c.args.want.now in
     let place = c.loop-place.place in
     let x = c.index-entry.result.now in
-    let less : place < length now = omega (arith, c.self.inside.entries.ok.0, ap (λ l. length l) c.self.view_is) in
+    let len = ap (λ l. length l) c.self.view_is in
+    let fits = c.near_end-near.ensures.within
+    (omega (arith, c.count_near-start.ensures.within, c.len.ensures, c.self.inside.entries.ok.0, len)) in
+    let less : place < length now = omega (
+      arith,
+      c.self.inside.entries.ok.0,
+      len,
+      c.len.ensures,
+      fits.1,
+      c.loop-place-test.true,
+    ) in
     let is : x ≡ get_or now place x = c.index-entry.ensures ∙ ap (λ l. get_or l place x) c.self.view_is in
     let late : r ≤ rank_of (get_or now place x) = c.count_near-start.ensures.behind place x (omega arith) less in
     let holds : Holds x.print want = c.is_met_by-in-loop-place.ensures.0 c.if-is_met_by.true in

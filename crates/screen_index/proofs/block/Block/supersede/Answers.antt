@@ -1,7 +1,10 @@
-use Rattle.std.proofs.Common.{◌≡◌, ◌<◌, ◌≤◌, ◌∙◌, ap, arith, false, get_or, length, nat_lt, set, sym, true}
+use Rattle.std.proofs.Common.{◌≡◌, ◌<◌, ◌≤◌, ◌∙◌, ap, arith, false, get_or, length, nat_lt, set, subst, sym, true}
 use Rattle.std.proofs.lemmas.Bool.Decides.{nat_tests}
-use Rattle.std.proofs.lemmas.List.{get_or_default}
-use Rattle.screen_index.specs.Pairs.{rank, rank_of}
+use Rattle.std.proofs.lemmas.List.{get_or_default, length-set}
+use Rattle.std.proofs.lemmas.List.Elements.{All-set}
+use Rattle.screen_index.specs.Pairs.{Holds, Notes, column_of, rank, rank_of}
+use Rattle.screen_index.specs.declared.entry.Screened.{Screened}
+use Rattle.screen_index.proofs.Columns.{columns-set}
 use Rattle.screen_index.proofs.Places.{lacks-parted, superseded-at, superseded-none}
 use Rattle.screen_index.proofs.block.Block.supersede.Goals as goal
 use Rattle.screen_index.proofs.block.Block.supersede.Goals.{else-index-len-via-then-index-len+else-not-is_behind, else-index-len-via-else-index-len}
@@ -46,3 +49,25 @@ returns-else-index-len g c =
         ap (λ l. length l) c.self.view_is,
       ))
     ])))
+
+pub invariant_of-self : goal.invariant_of-self
+invariant_of-self g c =
+    let items = c.self.inside.entries.items in
+    let i = c.count_before-index.result in
+    let x = c.index_mut.result.now in
+    let y : Screened g.row.V.Denot = record x { until = c.args.until } in
+    let union = c.self.inside.union in
+    let rows = c.self.inside.rows in
+    let less : i < length items = omega (arith, c.if-index-len.true, c.len.ensures, c.self.inside.entries.ok.0) in
+    let is : x ≡ get_or items i x = c.index_mut.ensures.value in (
+      c.self.invariant.0,
+      (let few = c.self.invariant.1 in rw (length-set items i y) few),
+      All-set (λ (z : Screened g.row.V.Denot). Holds union z.print) items i y
+          (subst (λ (z : Screened g.row.V.Denot). Holds union z.print) (sym is) (c.self.invariant.2 i x less))
+          c.self.invariant.2,
+      c.self.invariant.3,
+      c.self.invariant.4 ∙ sym (columns-set items i y x (ap column_of is) less),
+      All-set (λ (z : Screened g.row.V.Denot). Notes rows z.print (column_of z)) items i y
+          (subst (λ (z : Screened g.row.V.Denot). Notes rows z.print (column_of z)) (sym is) (c.self.invariant.5 i x less))
+          c.self.invariant.5,
+    )

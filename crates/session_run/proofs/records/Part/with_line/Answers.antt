@@ -2,7 +2,7 @@ use Rattle.std.proofs.Common.{◌≡◌, ◌+◌, ◌++◌, [], ◌∷◌, arith
 use Rattle.io_edge.specs.Lines.{Whole}
 use Rattle.session_run.specs.Taken.{IsPart}
 use Rattle.session_run.specs.declared.records.Part.TheVariants as parts
-use Rattle.session_run.proofs.Recorded.{big_more, long_more, lost_big, lost_more, part_big, part_lost, part_text}
+use Rattle.session_run.proofs.Recorded.{big_more, long_more, part_few, lost_big, lost_more, part_big, part_lost, part_text}
 use Rattle.session_run.proofs.records.Part.with_line.Goals as goal
 
 pub returns-then-size : goal.returns-then-size
@@ -37,7 +37,12 @@ returns-else-size-2 c lines p =
 
 pub returns-in-Long : goal.returns-in-Long
 returns-in-Long c lines p =
-    long_more lines c.args.line.now c.args.text.now.items c.args.text.now.items (rw c.in-Long.is at p)
+    long_more lines c.args.line.now c.args.text.now.items c.args.text.now.items c.in-Long.size _ (rw c.in-Long.is at p)
+    c.with_bytes.ensures
+
+pub with_bytes-requires : goal.with_bytes-requires
+with_bytes-requires c =
+    part_few (parts.Long c.in-Long.size) c.requires.0 c.args.text.now.items (rw c.in-Long.is at c.requires.1)
 
 pub returns-in-Big : goal.returns-in-Big
 returns-in-Big c lines p =

@@ -14,7 +14,8 @@ returns-in-Ok-clause-call g c =
     (λ s h. finished g.D.Disk.model c.laws.ensures.sound c.laws.ensures.heads _ s h x.0 h.copy x.2 c.finish.new.self
     c.finish.ensures.goes.a c.finish.ensures.goes.b c.finish.ensures.moments c.header-generation.result.generation
     (ap (λ (k : Header). k.generation) c.header-generation.ensures)
-    (subst (HasHeader s.generation s.history (Some x.0)) c.in-Ok.ensures.moved h.copied) c.in-Ok.ensures.gives)
+    (subst (HasHeader s.generation s.history (Some x.0)) c.in-Ok.ensures.moved h.copied) c.in-Ok.ensures.settled
+    c.in-Ok.ensures.gives)
 
 pub returns-in-Err-DiskFault-clause-call : goal.returns-in-Err-DiskFault-clause-call
 returns-in-Err-DiskFault-clause-call g c =
@@ -24,7 +25,8 @@ returns-in-Err-DiskFault-clause-call g c =
     rw (sym c.self.view_is, x.1)
     (λ s h. faulted-finish g.D.Disk.model c.laws.ensures.sound c.laws.ensures.heads _ s h x.0 h.copy x.2
     c.finish.new.self c.finish.ensures.goes.a c.finish.ensures.goes.b c.finish.ensures.moments fault.ensures.stays
-    fault.doubt (rw fault.field-0-is at fault.ensures.goes.cause) (rw fault.field-0-is at fault.ensures.gives))
+    fault.doubt h.copied (rw fault.field-0-is at fault.ensures.doubtful)
+    (rw fault.field-0-is at fault.ensures.goes.cause) (rw fault.field-0-is at fault.ensures.gives))
 
 pub returns-in-Err-NoMemory-clause-call : goal.returns-in-Err-NoMemory-clause-call
 returns-in-Err-NoMemory-clause-call g c =

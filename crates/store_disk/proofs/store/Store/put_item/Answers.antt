@@ -34,8 +34,8 @@ returns-in-Ok-clause-gives g c =
     h.copied in
     let item = c.in-Ok.ensures.item s h.memory has in
     taken g.D.Disk.model c.laws.ensures.sound c.laws.ensures.heads _ s h c.put_next.new.pair c.put_next.ensures.goes.a
-    c.put_next.ensures.goes.b c.put_next.ensures.current.journal (copy_of c.in-Some.copy) (copy_of c.put_next.new.copy)
-    has item.lacks (c.in-Ok.ensures.goes_on.header s header) item.gives)
+    c.put_next.ensures.goes.b c.put_next.ensures.current.journal (copy_of c.in-Some.copy) has header
+    (copy_of c.put_next.new.copy) item.lacks (c.in-Ok.ensures.goes_on.header s header) item.gives)
 
 pub returns-in-Ok-clause-current : goal.returns-in-Ok-clause-current
 returns-in-Ok-clause-current g c = rw (sym c.self.view_is) c.put_next.ensures.current
@@ -47,9 +47,12 @@ returns-in-Err-DiskFault-clause-gives g c =
     rw (sym c.self.view_is)
     (λ s h.
     let has = subst (λ (o : Option Copying). HasCopy s.history s.copy (option_map copy_of o)) c.in-Some.is h.copy in
+    let header = subst (λ (o : Option Copying).
+    HasHeader s.generation s.history (option_map copy_of o) (progress_of c.self.inside.pair.other)) c.in-Some.is
+    h.copied in
     given-up g.D.Disk.model c.laws.ensures.sound c.laws.ensures.heads _ s h c.put_next.new.pair
-    c.put_next.ensures.goes.a c.put_next.ensures.goes.b c.put_next.ensures.current.journal
-    (rw fault.field-0-is at fault.ensures.goes.cause)
+    c.put_next.ensures.goes.a c.put_next.ensures.goes.b c.put_next.ensures.current.journal (copy_of c.in-Some.copy) has
+    header (rw fault.field-0-is at fault.ensures.goes.cause)
     (λ it. dropped g.D.Disk.model c.self.inside.pair c.put_next.new.pair (Err fault.field-0) s (copy_of c.in-Some.copy)
     has fault.doubt _ ((item s h.memory has).gives it)))
 
@@ -69,8 +72,8 @@ returns-in-Err-NoMemory-clause-gives g c =
     HasHeader s.generation s.history (option_map copy_of o) (progress_of c.self.inside.pair.other)) c.in-Some.is
     h.copied in
     untaken g.D.Disk.model c.laws.ensures.sound c.laws.ensures.heads _ s h c.put_next.new.pair
-    c.put_next.ensures.goes.a c.put_next.ensures.goes.b c.put_next.ensures.current.journal
-    (Some (copy_of c.put_next.new.copy))
+    c.put_next.ensures.goes.a c.put_next.ensures.goes.b c.put_next.ensures.current.journal (copy_of c.in-Some.copy) has
+    header (Some (copy_of c.put_next.new.copy))
     (subst (λ (k : Copying). Lacks s.history s.copy (copy_of k)) (sym stays) has)
     (subst (λ (k : Copying).
     HasHeader s.generation s.history (Some (copy_of k)) (progress_of c.put_next.new.pair.other)) (sym stays)

@@ -43,7 +43,12 @@ returns-in-Ok-clause-call g c =
 pub returns-in-Err-clause-call : goal.returns-in-Err-clause-call
 returns-in-Err-clause-call g c =
     let none = ap (λ (t : StoreTerm g.row.D.Denot). t.copy) c.self.view_is ∙ c.requires in
+    let low : c.header.result.generation < 4294967295 = omega (arith, c.if-header.false, c.header.type_inv) in
+    let same = ap (λ (k : Header). k.generation) c.header.ensures in
     rw (sym c.self.view_is, none, c.copy_fault.ensures)
-    (λ s h. refused-start g.D.Disk.model c.laws.ensures.sound c.laws.ensures.heads _ s h h.copy c.start_copy.new.self
+    (λ s h.
+    let at = ap (λ (k : Header). k.generation) h.header in
+    refused-start g.D.Disk.model c.laws.ensures.sound c.laws.ensures.heads _ s h h.copy c.start_copy.new.self
     c.start_copy.ensures.goes.a c.start_copy.ensures.goes.b c.start_copy.ensures.current.journal c.in-Err.fault _
-    c.in-Err.ensures.gives c.in-Err.ensures.goes.cause c.start_copy.ensures.current.moments)
+    (omega (arith, low, same, at)) c.in-Err.ensures.gives c.in-Err.ensures.goes.cause
+    c.start_copy.ensures.current.moments)

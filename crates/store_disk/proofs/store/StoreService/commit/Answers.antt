@@ -44,7 +44,7 @@ returns-clause-call g c =
     (c.make.ensures.committed s stands)
     (c.queue.ensures ∙ (ap (option_map (queued c.in_ok-payload.payload.items)) c.reserve.ensures.same
     ∙ ap (λ q. option_map (queued q) (option_map copy_of c.self.inside.copy)) (sym c.deref.ensures.value)))
-    c.in-Ok.ensures.gives)
+    c.in-Ok.ensures.in_doubt c.in-Ok.ensures.gives)
 
 pub returns-in-Err-clause-call : goal.returns-in-Err-clause-call
 returns-in-Err-clause-call g c =
@@ -56,7 +56,8 @@ returns-in-Err-clause-call g c =
     (c.in_ok-prepare.ensures.prepared.may_add s stands) c.prepare.new.self c.append.new.self _ c.append.ensures.goes.a
     c.append.ensures.goes.b c.append.ensures.header c.append.ensures.progress c.deref.result.now
     (c.deref.ensures.value ∙ c.in_ok-payload.ensures.payload) c.append.ensures.moments
-    stands c.reserve.ensures.same c.in-Err.fault c.in-Err.ensures.gives c.in-Err.ensures.goes.cause)
+    stands c.reserve.ensures.same c.in-Err.fault c.in-Err.ensures.gives c.in-Err.ensures.in_doubt
+    c.in-Err.ensures.goes.cause)
 
 pub invariant_of-self-in_err-prepare : goal.invariant_of-self-in_err-prepare
 invariant_of-self-in_err-prepare g c =
