@@ -96,6 +96,7 @@ nothing_inside (b ∷ before) x after e = cc
 
 pub none_true : (h : History) (page : ℕ) → AreTrue h page []
 none_true h page = record {
+  commits = λ before after x v e told. absurd (nothing_inside before x after e);
   searches = λ before after x text version tried count e is ends. absurd (nothing_inside before x after e);
   cursors = λ before between after x y name text hits opened version tried count e first begun stays last ends listed.
       absurd (nothing_inside before x (between ++ y ∷ after) e);

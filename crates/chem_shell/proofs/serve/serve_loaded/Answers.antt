@@ -1,4 +1,4 @@
-use Rattle.std.proofs.Common.{◌≡◌, ◌∙◌, Bool, OnErr, OnOk, map, refl, ap, sym, subst, inr}
+use Rattle.std.proofs.Common.{◌≡◌, ◌∙◌, Bool, OnErr, OnOk, map, refl, ap, sym, subst, true, inr}
 use Rattle.disk_pair.specs.Term.{Paired, disk_a, disk_b}
 use Rattle.journal_core.specs.Looks.{Narrows}
 use Rattle.session_run.specs.Servable.{IsServable}
