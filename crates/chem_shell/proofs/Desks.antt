@@ -8,10 +8,10 @@ use Rattle.disk_edge.specs.Disk.{DiskModel}
 use Rattle.disk_pair.specs.Term.{OfEachPair, disk_a, disk_b}
 use Rattle.io_edge.specs.declared.sinks.Sink as put
 use Rattle.io_edge.specs.declared.sources.Source as taken
-use Rattle.session_run.specs.Cursors.{Calls}
-use Rattle.session_run.specs.Truths.{IsInRun, ServicesAreTrue}
-use Rattle.session_run.specs.declared.settings.EndStatus.{EndStatus}
-use Rattle.session_run.specs.declared.settings.EndStatus.TheVariants.{Done, SourceFault, SinkFault, NoMemory, InputTooLong, Worn}
+use Rattle.session_acts.specs.Cursors.{Calls}
+use Rattle.session_acts.specs.Truths.{IsInRun, ServicesAreTrue}
+use Rattle.session_acts.specs.declared.end.EndStatus.{EndStatus}
+use Rattle.session_acts.specs.declared.end.EndStatus.TheVariants.{Done, SourceFault, SinkFault, NoMemory, InputTooLong, Worn}
 use Rattle.journal_core.specs.Looks.{Narrows}
 use Rattle.store_disk.specs.Loads.{OpensAfter}
 use Rattle.store_disk.specs.OnDisk.{StandsFor, StoreTerm}

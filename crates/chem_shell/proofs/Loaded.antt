@@ -3,8 +3,8 @@ use Rattle.std.proofs.Common.{◌≡◌, ◌∙◌, ℕ, [], refl, subst, sym, a
 use Rattle.disk_edge.specs.Disk.{DiskModel}
 use Rattle.disk_pair.specs.Term.{OfEachPair, Paired, disk_a, disk_b}
 use Rattle.journal_core.specs.Looks.{Narrows}
-use Rattle.session_run.specs.Cursors.{Calls}
-use Rattle.session_run.specs.Truths.{IsInRun}
+use Rattle.session_acts.specs.Cursors.{Calls}
+use Rattle.session_acts.specs.Truths.{IsInRun}
 use Rattle.store_core.specs.Calls as core
 use Rattle.store_disk.specs.Loads.{OpensAfter, OpensTo}
 use Rattle.store_disk.specs.OnDisk.{StandsFor, StoreTerm}

@@ -3,9 +3,9 @@ use Rattle.std.proofs.Common.{◌≡◌, ◌∙◌, ℕ, List, [], ◌++◌, Opt
 use Rattle.std.specs.declared.alloc.Global.{Global}
 use Rattle.chem_gen.specs.Script.{script_of}
 use Rattle.chem_gen.specs.Summary.{summary_of}
-use Rattle.session_run.specs.Cursors.{Calls}
-use Rattle.session_run.specs.Served.{Writes}
-use Rattle.session_run.specs.declared.settings.EndStatus.TheVariants.{Done}
+use Rattle.session_acts.specs.Cursors.{Calls}
+use Rattle.session_acts.specs.Served.{Writes}
+use Rattle.session_acts.specs.declared.end.EndStatus.TheVariants.{Done}
 use Rattle.chem_shell.specs.Runs.{AreOfRun, IsTranscript}
 use Rattle.chem_shell.specs.Serving.{IsScriptServed}
 use Rattle.chem_shell.specs.Summed.{IsSummary, IsSummaryPrefix, WritesNothing}

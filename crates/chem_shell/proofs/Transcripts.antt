@@ -3,14 +3,14 @@ use Rattle.std.proofs.Common.{◌≡◌, ◌≢◌, ℕ, List, [], ◌∷◌, �
 use Rattle.io_edge.specs.Lines.{TextLine, lines_of}
 use Rattle.io_edge.specs.declared.sinks.Sink as put
 use Rattle.io_edge.specs.declared.sources.Source as taken
-use Rattle.session_run.specs.Cursors.{Calls}
-use Rattle.session_run.specs.Served as session
-use Rattle.session_run.specs.Served.{EndsAs, TakesAtMost, Writes}
-use Rattle.session_run.specs.Transcript as script
-use Rattle.session_run.specs.Truths.{AreTrue, IsInRun, IsTrueBeginning, IsTrueService, ServicesAreTrue}
-use Rattle.session_run.specs.Watching.{nothing_kept}
-use Rattle.session_run.specs.declared.settings.EndStatus.{EndStatus}
-use Rattle.session_run.specs.declared.settings.EndStatus.TheVariants.{Done, SourceFault, SinkFault, NoMemory, InputTooLong, Worn}
+use Rattle.session_acts.specs.Cursors.{Calls}
+use Rattle.session_acts.specs.Served as session
+use Rattle.session_acts.specs.Served.{EndsAs, TakesAtMost, Writes}
+use Rattle.session_acts.specs.Transcript as script
+use Rattle.session_acts.specs.Truths.{AreTrue, IsInRun, IsTrueBeginning, IsTrueService, ServicesAreTrue}
+use Rattle.session_acts.specs.Watching.{nothing_kept}
+use Rattle.session_acts.specs.declared.end.EndStatus.{EndStatus}
+use Rattle.session_acts.specs.declared.end.EndStatus.TheVariants.{Done, SourceFault, SinkFault, NoMemory, InputTooLong, Worn}
 use Rattle.store_core.specs.Stored.{empty}
 use Rattle.store_machine.specs.declared.machine.History.{History}
 use Rattle.chem_shell.specs.Ends.{ServesMem, ServesScript, with_status}

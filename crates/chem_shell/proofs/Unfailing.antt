@@ -3,7 +3,7 @@ use Rattle.std.proofs.Common.{◌≡◌, ◌&&◌, ap, arith, Bool, cond, inl, i
 use Rattle.std.specs.List.{AllByRecursion}
 use Rattle.disk_edge.specs.NoDisk.{model}
 use Rattle.disk_edge.specs.declared.no_disk.NoDisk.{NoDisk}
-use Rattle.session_run.specs.Cursors.{Calls}
+use Rattle.session_acts.specs.Cursors.{Calls}
 use Rattle.store_core.specs.Calls as core
 use Rattle.store_core.specs.Stored.{empty}
 use Rattle.store_disk.specs.OnDisk.{StoreTerm}

@@ -4,7 +4,7 @@ use Rattle.disk_edge.specs.Disk.{DiskModel, Same}
 use Rattle.journal_core.specs.Looks.{Narrows, Stays}
 use Rattle.store_disk.specs.declared.disks.Disks.{Disks}
 use Rattle.chem_shell.specs.Ends.{ServesBulk, ServesScript, with_status}
-use Rattle.session_run.specs.Cursors.{Calls}
+use Rattle.session_acts.specs.Cursors.{Calls}
 use Rattle.std.specs.List.{AllZip}
 use Rattle.chem_shell.specs.OnDisks.{AreAtDesks, AreOnDisks, Creates, IsRefused, IsRefusedAs, RunsOn, ServesOn}
 use Rattle.chem_shell.specs.declared.request.Plan.{Plan}

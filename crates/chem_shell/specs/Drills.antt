@@ -5,8 +5,8 @@ use Rattle.drill_run.specs.Truths.{AreAllTold}
 use Rattle.io_edge.specs.Lines.{lines_of}
 use Rattle.serve_ends.specs.declared.end.End.{End}
 use Rattle.serve_ends.specs.declared.status.TheConstants.{DONE}
-use Rattle.session_run.specs.Cursors.{Calls}
-use Rattle.session_run.specs.Served.{TakesAll, TakesAtMost, Writes, WritesForTaken}
+use Rattle.session_acts.specs.Cursors.{Calls}
+use Rattle.session_acts.specs.Served.{TakesAll, TakesAtMost, Writes, WritesForTaken}
 use Rattle.store_core.specs.Stored.{empty}
 use Rattle.store_machine.specs.Runs.{IsRun}
 use Rattle.store_machine.specs.declared.machine.State.{State}

@@ -2,8 +2,8 @@
 -- functions.
 use Rattle.std.specs.Prelude.{◌≡◌, ℕ, Option, List, IfSome}
 use Rattle.io_edge.specs.Faults.{Rose}
-use Rattle.session_run.specs.Cursors.{Calls}
-use Rattle.session_run.specs.Served.{IsAllOfTaken, TakesAll, TakesAtMost, TakesExactly, Writes, WritesForTaken}
+use Rattle.session_acts.specs.Cursors.{Calls}
+use Rattle.session_acts.specs.Served.{IsAllOfTaken, TakesAll, TakesAtMost, TakesExactly, Writes, WritesForTaken}
 use Rattle.store_machine.specs.declared.machine.History.{History}
 use Rattle.chem_shell.specs.declared.request.Plan.{Plan}
 use Rattle.serve_ends.specs.declared.end.End.{End}

@@ -5,10 +5,10 @@ use Rattle.disk_edge.specs.Disk.{DiskModel, Exactly, IfTold}
 use Rattle.journal_core.specs.Journal.{IsEmptyJournal}
 use Rattle.journal_core.specs.Looks.{Narrows, Stays}
 use Rattle.io_edge.specs.Lines.{lines_of}
-use Rattle.session_run.specs.Cursors.{Calls}
-use Rattle.session_run.specs.Served.{TakesAtMost, Writes}
-use Rattle.session_run.specs.Transcript.{WornAt}
-use Rattle.session_run.specs.Truths.{IsTrueBeginning}
+use Rattle.session_acts.specs.Cursors.{Calls}
+use Rattle.session_acts.specs.Served.{TakesAtMost, Writes}
+use Rattle.session_acts.specs.Transcript.{WornAt}
+use Rattle.session_acts.specs.Truths.{IsTrueBeginning}
 use Rattle.store_disk.specs.Loads.{OpensAfter, OpensTo}
 use Rattle.store_disk.specs.Stored.{AreClocked, IsCaused}
 use Rattle.store_disk.specs.declared.disks.Disks.{Disks}

@@ -4,11 +4,11 @@ use Rattle.std.specs.Io.KnownBytes.{Appends}
 use Rattle.io_edge.specs.Faults.{Rose}
 use Rattle.io_edge.specs.Lines.{lines_of}
 use Rattle.io_edge.specs.Sink.{AppendsPrefix}
-use Rattle.session_run.specs.Cursors.{Calls}
-use Rattle.session_run.specs.Served as session
-use Rattle.session_run.specs.Served.{Writes, WritesForTaken}
-use Rattle.session_run.specs.Truths.{IsTrueService}
-use Rattle.session_run.specs.declared.settings.EndStatus.{EndStatus}
+use Rattle.session_acts.specs.Cursors.{Calls}
+use Rattle.session_acts.specs.Served as session
+use Rattle.session_acts.specs.Served.{Writes, WritesForTaken}
+use Rattle.session_acts.specs.Truths.{IsTrueService}
+use Rattle.session_acts.specs.declared.end.EndStatus.{EndStatus}
 use Rattle.store_machine.specs.declared.machine.History.{History}
 use Rattle.chem_shell.specs.Status.{IsSinkStatus}
 use Rattle.serve_ends.specs.declared.status.TheConstants.{DONE, SINK_FAULT, NO_MEMORY}

@@ -1,8 +1,8 @@
 //! `drill`: sessions on a store in memory whose disks are stopped, failed and reopened.
 ghost use Rattle.std.specs.Prelude.{◌≢◌};
 ghost use Rattle.drill_run.specs.Drilled.{IsDrilledBy};
-ghost use Rattle.session_run.specs.Cursors.{Calls};
-ghost use Rattle.session_run.specs.Served.{EndsAs};
+ghost use Rattle.session_acts.specs.Cursors.{Calls};
+ghost use Rattle.session_acts.specs.Served.{EndsAs};
 ghost use Rattle.chem_shell.specs.Drills.{AreOfDrill, ServesDrill};
 ghost use Rattle.chem_shell.specs.Ends.{HasEndCauses};
 ghost use Rattle.chem_shell.specs.Words.{IsWithinLimits};

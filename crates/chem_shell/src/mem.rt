@@ -1,7 +1,7 @@
 //! `mem`: a session over a store in memory, which keeps no journal.
 ghost use Rattle.std.specs.Prelude.{◌≢◌};
-ghost use Rattle.session_run.specs.Cursors.{Calls};
-ghost use Rattle.session_run.specs.Served.{EndsAs};
+ghost use Rattle.session_acts.specs.Cursors.{Calls};
+ghost use Rattle.session_acts.specs.Served.{EndsAs};
 ghost use Rattle.chem_shell.specs.Ends.{HasEndCauses, ServesMem};
 ghost use Rattle.chem_shell.specs.Runs.{AreOfRun};
 ghost use Rattle.chem_shell.specs.Serving.{IsScriptServed};
@@ -12,7 +12,8 @@ use crate::settings::{INPUT_LIMIT, settings};
 use io_edge::{Sink, Source};
 use par_search::NoMeter;
 use serve_ends::{End, end_status};
-use session_run::{EndStatus, services_are_true, session};
+use session_acts::services_are_true;
+use session_run::{EndStatus, session};
 use std::alloc::Global;
 use std::thread::Threads;
 use store_disk::Store;

@@ -21,7 +21,7 @@ use hall::Hall;
 use io_edge::{Sink, Source};
 use par_search::NoMeter;
 use serve_ends::{End, serve_ends};
-use session_run::services_are_true;
+use session_acts::services_are_true;
 use std::alloc::Global;
 use std::snapshot::Snapshot;
 use std::sync::Wait;

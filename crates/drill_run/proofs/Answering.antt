@@ -11,21 +11,21 @@ use Rattle.disk_pair.specs.Term.{disk_a, disk_b}
 use Rattle.drill_core.specs.Faults.{FaultsAreCounted, disk_faults}
 use Rattle.drill_core.specs.Worlds.{HasNoFailures, Reopens, bounds_of}
 use Rattle.io_edge.specs.Lines.{TextLine, Whole}
-use Rattle.session_run.specs.Acts.{Lines, RequestAnswer}
-use Rattle.session_run.specs.Cursors.{Calls}
+use Rattle.session_acts.specs.Acts.{Lines, RequestAnswer}
+use Rattle.session_acts.specs.Cursors.{Calls}
+use Rattle.session_acts.specs.Pins.{AreHeld, HeldAfter}
+use Rattle.session_acts.specs.Watching.{Standing, nothing_kept}
+use Rattle.session_acts.proofs.ActPins.{all_held, all_others}
+use Rattle.session_acts.proofs.Held.{held-same, moves-none, not_raised-same, same_others, same_others-more}
 use Rattle.session_run.specs.Made as made
 use Rattle.session_run.specs.Made.{Answered, AnsweredBy, Broken, Did, Said, Unsaid}
-use Rattle.session_run.specs.Pins.{AreHeld, HeldAfter}
 use Rattle.session_run.specs.Opened.{opened}
 use Rattle.session_run.specs.Responds.{IsFit, KeepsPins}
 use Rattle.session_run.specs.Standings.{standing_of}
 use Rattle.session_run.specs.Walks.{cursors_of}
-use Rattle.session_run.specs.Watching.{Standing, nothing_kept}
 use Rattle.session_run.specs.declared.respond.Responder.{Responder}
 use Rattle.session_run.specs.declared.settings.Settings.{Settings}
 use Rattle.session_run.specs.declared.stop.Stop.TheVariants as stops
-use Rattle.session_run.proofs.ActPins.{all_held, all_others}
-use Rattle.session_run.proofs.Held.{held-same, moves-none, not_raised-same, same_others, same_others-more}
 use Rattle.shell_lang.specs.Command.{TakesLines}
 use Rattle.shell_lang.specs.CommandView.{Takes}
 use Rattle.shell_lang.specs.Reply.{text_of}

@@ -9,7 +9,7 @@ use Rattle.store_machine.specs.declared.machine.State.{State}
 use Rattle.store_machine.specs.declared.machine.Step.{Step}
 use Rattle.store_disk.specs.InMemory.{StandsInMemory}
 use Rattle.drill_core.specs.Faults.{disk_faults, is_disk_fault}
-use Rattle.session_run.specs.Cursors.{Calls}
+use Rattle.session_acts.specs.Cursors.{Calls}
 use Rattle.drill_run.specs.Causes.{faults_in}
 use Rattle.drill_run.specs.Drilled.{RunsTo, events_of}
 use Rattle.drill_run.specs.Turns.{WorldTerm}

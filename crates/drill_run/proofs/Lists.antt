@@ -1,7 +1,7 @@
 -- Exchanges that follow others.
 use Rattle.std.proofs.Common.{◌≡◌, ◌++◌, ◌∙◌, ap, append_assoc, List, [], ◌∷◌, refl, subst, sym, ℕ}
 use Rattle.io_edge.specs.Lines.{TextLine}
-use Rattle.session_run.specs.Cursors.{Calls}
+use Rattle.session_acts.specs.Cursors.{Calls}
 use Rattle.drill_run.specs.Causes.{AreCaused, MayFail, Tally, faults_in, tally_after}
 use Rattle.drill_run.specs.Dialogue.{AllKept, AreExchanged, Exchange, IsExchange, calls_of, lines_of, replies_of}
 

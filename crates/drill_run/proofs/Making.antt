@@ -1,12 +1,12 @@
 -- Sessions that are made, and that forget their cursors and watches.
 use Rattle.std.proofs.Common.{◌≡◌, ◌≤◌, ◌<◌, ◌++◌, ◌∙◌, ap, arith, get_or, length, List, [], ◌∷◌, map, refl, replicate, set, subst, suc, sym, zero, ℕ}
 use Rattle.std.specs.List.{AllByRecursion}
-use Rattle.session_run.specs.Cursors.{Cursor}
+use Rattle.session_acts.specs.Cursors.{Cursor}
+use Rattle.session_acts.specs.Watching.{Standing, Watched, nothing_kept}
 use Rattle.session_run.specs.Opened.{opened}
 use Rattle.session_run.specs.Servable.{IsServable}
 use Rattle.session_run.specs.Standings.{both, standing_of, watched_all}
 use Rattle.session_run.specs.Walks.{AreSized, cursors_of}
-use Rattle.session_run.specs.Watching.{Standing, Watched, nothing_kept}
 use Rattle.session_run.specs.declared.respond.Responder.{Responder}
 use Rattle.session_run.specs.declared.settings.Settings.{Settings}
 use Rattle.drill_run.specs.Dialogue.{AllKept}

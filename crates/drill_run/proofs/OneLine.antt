@@ -3,13 +3,13 @@
 use Rattle.std.proofs.Common.{◌≡◌, ◌+◌, ◌==◌, ◌⊎◌, ◌++◌, ◌∙◌, ap, eq-eqb, eqb-true, false, inl, inr, length, List, [], ◌∷◌, None, Option, refl, Some, subst, sym, true, ℕ}
 use Rattle.std.proofs.lemmas.Bool.{true≢false}
 use Rattle.io_edge.specs.Lines.{Whole}
-use Rattle.session_run.specs.Acts.{Lines, RequestAnswer}
-use Rattle.session_run.specs.Cursors.{Calls}
-use Rattle.session_run.specs.Dialogue as session
-use Rattle.session_run.specs.Pins.{AreApart, AreHeld, HeldAfter}
-use Rattle.session_run.specs.Requests.{Request}
-use Rattle.session_run.specs.Watching.{Standing}
-use Rattle.session_run.proofs.ActPins.{all_held}
+use Rattle.session_acts.specs.Acts.{Lines, RequestAnswer}
+use Rattle.session_acts.specs.Cursors.{Calls}
+use Rattle.session_acts.specs.Dialogue as session
+use Rattle.session_acts.specs.Pins.{AreApart, AreHeld, HeldAfter}
+use Rattle.session_acts.specs.Requests.{Request}
+use Rattle.session_acts.specs.Watching.{Standing}
+use Rattle.session_acts.proofs.ActPins.{all_held}
 use Rattle.shell_lang.specs.Command.{TakesLines}
 use Rattle.shell_lang.specs.Reply.{text_of}
 use Rattle.store_machine.specs.Laws.{PinsStay}

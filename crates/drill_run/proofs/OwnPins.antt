@@ -3,14 +3,14 @@ use Rattle.std.proofs.Common.{◌≡◌, ◌+◌, ◌++◌, ap, Bool, cond, inl,
 use Rattle.chem_core.specs.Molecule.{Molecule}
 use Rattle.io_edge.specs.Lines.{TextLine}
 use Rattle.lookup.specs.Fetches.{AreFetches, lookup_calls}
-use Rattle.session_run.specs.Acts.{Act, Advances, AllSame, AllSimilar, AnswersBy, Asks, Closed, Current, Does, DoesAll, DoesWatch, Ended, Faults, FoundData, HitsLost, IsLineOf, IsNew, Lines, ListedSame, ListedSimilar, ListsSame, ListsSimilar, Lost, NewLost, NotNew, Opened, Paged, Refilled, Refuses, RegisteredEach, RegisteredNew, RegistersEach, RegistersNew, Replies, SameLost, Says, Searched, Searches, SimilarLost, TakenOut, Turned, WatchLost, WatchedAll}
-use Rattle.session_run.specs.Cursors.{Calls, Cursor}
-use Rattle.session_run.specs.Lookups.{LooksUp}
-use Rattle.session_run.specs.Pins.{AreApart, AreHeld, Effect, HeldAfter, HeldBy, IsApart, Leaves, Returns, Takes, effect}
-use Rattle.session_run.specs.Records.{counted}
-use Rattle.session_run.specs.Watching.{Standing, Watched}
-use Rattle.session_run.proofs.Held.{after-under, held-at, leave-same}
-use Rattle.session_run.proofs.LookedUp.{fetches_leave}
+use Rattle.session_acts.specs.Acts.{Act, Advances, AllSame, AllSimilar, AnswersBy, Asks, Closed, Current, Does, DoesAll, DoesWatch, Ended, Faults, FoundData, HitsLost, IsLineOf, IsNew, Lines, ListedSame, ListedSimilar, ListsSame, ListsSimilar, Lost, NewLost, NotNew, Opened, Paged, Refilled, Refuses, RegisteredEach, RegisteredNew, RegistersEach, RegistersNew, Replies, SameLost, Says, Searched, Searches, SimilarLost, TakenOut, Turned, WatchLost, WatchedAll}
+use Rattle.session_acts.specs.Cursors.{Calls, Cursor}
+use Rattle.session_acts.specs.Lookups.{LooksUp}
+use Rattle.session_acts.specs.Pins.{AreApart, AreHeld, Effect, HeldAfter, HeldBy, IsApart, Leaves, Returns, Takes, effect}
+use Rattle.session_acts.specs.Records.{counted}
+use Rattle.session_acts.specs.Watching.{Standing, Watched}
+use Rattle.session_acts.proofs.Held.{after-under, held-at, leave-same}
+use Rattle.session_acts.proofs.LookedUp.{fetches_leave}
 use Rattle.shell_lang.specs.Reply as line
 use Rattle.smarts_parse.specs.Pattern.{PatternTerm}
 use Rattle.store_machine.specs.Searches.{At, End, Place, past}

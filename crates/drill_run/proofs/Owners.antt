@@ -3,9 +3,9 @@
 use Rattle.std.proofs.Common.{◌≡◌, ◌==◌, ◌&&◌, ◌++◌, ◌∙◌, ap, Bool, cond, eq-eqb, eqb-true, false, inl, inr, List, [], ◌∷◌, map, ne_eqb, None, Option, refl, Some, subst, sym, true, ℕ}
 use Rattle.std.specs.List.{AllByRecursion}
 use Rattle.std.proofs.lemmas.Bool.{cond-false, cond-true, true≢false}
-use Rattle.session_run.specs.Cursors.{Calls}
-use Rattle.session_run.specs.Pins.{AreApart, HeldAfter, HeldBy, IsApart, effect}
-use Rattle.session_run.proofs.Held.{after-under}
+use Rattle.session_acts.specs.Cursors.{Calls}
+use Rattle.session_acts.specs.Pins.{AreApart, HeldAfter, HeldBy, IsApart, effect}
+use Rattle.session_acts.proofs.Held.{after-under}
 use Rattle.store_machine.specs.History.{head}
 use Rattle.store_machine.specs.Laws.{PinsStay}
 use Rattle.store_machine.specs.Machine.{Gives, Holds, pin_in}

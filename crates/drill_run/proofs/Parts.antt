@@ -1,7 +1,7 @@
 -- A drill in parts, and what one session keeps.
 use Rattle.std.proofs.Common.{◌≡◌, ◌+◌, ◌++◌, ◌∙◌, ap, append_assoc, arith, inl, inr, length, List, [], ◌∷◌, map, Option, refl, replicate, subst, suc, sym, zero, ℕ}
-use Rattle.session_run.specs.Cursors.{Calls}
-use Rattle.session_run.specs.Watching.{Standing, nothing_kept}
+use Rattle.session_acts.specs.Cursors.{Calls}
+use Rattle.session_acts.specs.Watching.{Standing, nothing_kept}
 use Rattle.store_machine.specs.Runs.{IsRun}
 use Rattle.store_machine.specs.declared.machine.Event.{Event}
 use Rattle.store_machine.specs.declared.machine.Reply.{Reply}

@@ -1,10 +1,10 @@
 -- The pins of the cursors of all sessions.
 use Rattle.std.proofs.Common.{◌≡◌, ◌⊎◌, ◌++◌, ◌∙◌, ap, append_assoc, inl, inr, List, [], ◌∷◌, refl, subst, sym, ℕ}
-use Rattle.session_run.specs.Cursors.{Cursor}
-use Rattle.session_run.specs.Pins.{AreHeld, HasSlot, SameOthers}
+use Rattle.session_acts.specs.Cursors.{Cursor}
+use Rattle.session_acts.specs.Pins.{AreHeld, HasSlot, SameOthers}
+use Rattle.session_acts.specs.Watching.{Standing}
+use Rattle.session_acts.proofs.Held.{slot-left, slot-right}
 use Rattle.session_run.specs.Responds.{KeepsPins}
-use Rattle.session_run.specs.Watching.{Standing}
-use Rattle.session_run.proofs.Held.{slot-left, slot-right}
 use Rattle.drill_run.specs.Dialogue.{AllKept}
 use Rattle.drill_run.specs.Turns.{all_of}
 

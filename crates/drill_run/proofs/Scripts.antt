@@ -8,11 +8,11 @@ use Rattle.io_edge.specs.Faults.{Rose}
 use Rattle.io_edge.specs.Lines as io
 use Rattle.io_edge.specs.Lines.{Reading, TextLine, done_bytes, lines_left, whole_lines}
 use Rattle.io_edge.proofs.TextLines.{behind-none}
-use Rattle.session_run.specs.Cursors.{Calls}
-use Rattle.session_run.specs.Served.{TakesAll, TakesAtMost, TakesExactly, Writes, WritesForTaken}
+use Rattle.session_acts.specs.Cursors.{Calls}
+use Rattle.session_acts.specs.Served.{TakesAll, TakesAtMost, TakesExactly, Writes, WritesForTaken}
+use Rattle.session_acts.specs.declared.end.EndStatus.{EndStatus}
+use Rattle.session_acts.specs.declared.end.EndStatus.TheVariants.{Done, SourceFault, SinkFault, NoMemory, InputTooLong, Worn}
 use Rattle.session_run.specs.Turn.{IsFresh, ReadsOn, TakesNone}
-use Rattle.session_run.specs.declared.settings.EndStatus.{EndStatus}
-use Rattle.session_run.specs.declared.settings.EndStatus.TheVariants.{Done, SourceFault, SinkFault, NoMemory, InputTooLong, Worn}
 use Rattle.session_run.proofs.Continued.{leaves, none_more}
 use Rattle.session_run.proofs.Wholes.{one_left, same_before, whole_and_one}
 use Rattle.store_disk.specs.InMemory.{StandsInMemory}

@@ -1,11 +1,11 @@
 -- The sessions of a drill share one run: where its steps have the numbers of their sessions, each session's calls are
 -- those of its own dialogue.
 use Rattle.std.proofs.Common.{◌≡◌, ◌==◌, ◌++◌, ◌∙◌, ap, append-nil, inl, inr, List, [], ◌∷◌, refl, subst, sym, ℕ}
-use Rattle.session_run.specs.Cursors.{Calls}
-use Rattle.session_run.specs.Dialogue as session
-use Rattle.session_run.specs.Pins.{AreHeld}
-use Rattle.session_run.specs.Truths.{AreTrue, DialoguesAreTrue}
-use Rattle.session_run.specs.Watching.{Standing}
+use Rattle.session_acts.specs.Cursors.{Calls}
+use Rattle.session_acts.specs.Dialogue as session
+use Rattle.session_acts.specs.Pins.{AreHeld}
+use Rattle.session_acts.specs.Truths.{AreTrue, DialoguesAreTrue}
+use Rattle.session_acts.specs.Watching.{Standing}
 use Rattle.store_machine.proofs.Joins.{calms-join, runs-join}
 use Rattle.store_machine.specs.Laws.{IsSound, PinsStay, RunsStaySound}
 use Rattle.store_machine.specs.Runs.{IsCalm, IsRun, calls_of}

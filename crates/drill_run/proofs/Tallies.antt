@@ -4,7 +4,7 @@ use Rattle.std.specs.Prelude.{IfSome, IsSomeAnd}
 use Rattle.disk_edge.specs.Failures.{bound_from, bound_of, pending}
 use Rattle.disk_edge.specs.declared.failures.Failures.{Failures}
 use Rattle.store_core.specs.Calls.{NotAbove, NotRaised}
-use Rattle.session_run.specs.Cursors.{Calls}
+use Rattle.session_acts.specs.Cursors.{Calls}
 use Rattle.drill_run.specs.Causes.{MayFail, Tally, faults_in}
 use Rattle.drill_run.specs.Turns.{IsSmall}
 

@@ -1,6 +1,6 @@
 -- What a drill told, wherever it is cut.
 use Rattle.std.proofs.Common.{◌≡◌, ◌++◌, ◌∙◌, ap, append_assoc, List, subst, sym}
-use Rattle.session_run.specs.Cursors.{Calls}
+use Rattle.session_acts.specs.Cursors.{Calls}
 use Rattle.drill_run.specs.Dialogue.{AreExchanged, Exchange, calls_of}
 use Rattle.drill_run.specs.Drilled.{all_empty}
 use Rattle.drill_run.specs.Truths.{DrillsAreTrue}

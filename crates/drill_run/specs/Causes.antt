@@ -1,7 +1,7 @@
 -- For callers: which disk faults a drill's lines allow. Reopenings cut a drill into parts, in each of which failures
 -- are set anew.
 use Rattle.std.specs.Prelude.{◌≡◌, ◌⊎◌, ◌≤◌, ◌+◌, ℕ, List, [], ◌∷◌, Option, None, Some, count_by}
-use Rattle.session_run.specs.Cursors.{Calls}
+use Rattle.session_acts.specs.Cursors.{Calls}
 use Rattle.drill_core.specs.Faults.{is_disk_fault}
 use Rattle.drill_run.specs.Dialogue.{Exchange}
 use Rattle.drill_run.specs.Lines.{DrillLine, Empty, Session, Stop, Fail, Reopen}

@@ -3,9 +3,9 @@
 use Rattle.std.specs.Prelude.{◌≡◌, ◌⊎◌, ◌+◌, ℕ, List, [], ◌∷◌, ◌++◌, length, map, Option, None, Some, codes}
 use Rattle.std.specs.Fmt.{decimal}
 use Rattle.io_edge.specs.Lines.{TextLine, Whole, TooLong}
-use Rattle.session_run.specs.Acts.{Lines, RequestAnswer}
-use Rattle.session_run.specs.Cursors.{Calls}
-use Rattle.session_run.specs.Watching.{Standing, nothing_kept}
+use Rattle.session_acts.specs.Acts.{Lines, RequestAnswer}
+use Rattle.session_acts.specs.Cursors.{Calls}
+use Rattle.session_acts.specs.Watching.{Standing, nothing_kept}
 use Rattle.shell_lang.specs.Command.{TakesLines}
 use Rattle.shell_lang.specs.Reply as reply
 use Rattle.shell_lang.specs.Reply.{reply_line, text_of}

@@ -4,12 +4,12 @@ use Rattle.std.specs.Prelude.{◌≡◌, ◌⊎◌, ℕ, List, [], ◌∷◌, �
 use Rattle.disk_edge.specs.Medium.{Medium}
 use Rattle.io_edge.specs.Lines as io
 use Rattle.io_edge.specs.Lines.{TextLine, whole_lines}
-use Rattle.session_run.specs.Cursors.{Calls}
-use Rattle.session_run.specs.Served.{IsInputFault, Writes, WritesForTaken}
-use Rattle.session_run.specs.Transcript.{IsPrefixOf}
-use Rattle.session_run.specs.Watching.{nothing_kept}
-use Rattle.session_run.specs.declared.settings.EndStatus.{EndStatus}
-use Rattle.session_run.specs.declared.settings.EndStatus.TheVariants.{Done, InputTooLong, SourceFault, Worn}
+use Rattle.session_acts.specs.Cursors.{Calls}
+use Rattle.session_acts.specs.Served.{IsInputFault, Writes, WritesForTaken}
+use Rattle.session_acts.specs.Transcript.{IsPrefixOf}
+use Rattle.session_acts.specs.Watching.{nothing_kept}
+use Rattle.session_acts.specs.declared.end.EndStatus.{EndStatus}
+use Rattle.session_acts.specs.declared.end.EndStatus.TheVariants.{Done, InputTooLong, SourceFault, Worn}
 use Rattle.store_machine.specs.Runs.{IsRun}
 use Rattle.store_machine.specs.declared.machine.State.{State}
 use Rattle.store_machine.specs.declared.machine.Step.{Step}

@@ -2,9 +2,9 @@
 -- searches, cursors, lookups and watches tell what the history has.
 use Rattle.std.specs.Prelude.{◌≡◌, ◌⊎◌, ℕ, List, [], ◌∷◌, ◌++◌, Some}
 use Rattle.io_edge.specs.Lines.{Whole}
-use Rattle.session_run.specs.Cursors.{Calls}
-use Rattle.session_run.specs.Dialogue as session
-use Rattle.session_run.specs.Truths.{AreTrue}
+use Rattle.session_acts.specs.Cursors.{Calls}
+use Rattle.session_acts.specs.Dialogue as session
+use Rattle.session_acts.specs.Truths.{AreTrue}
 use Rattle.shell_lang.specs.Command.{TakesLines}
 use Rattle.shell_lang.specs.Reply.{text_of}
 use Rattle.store_machine.specs.History.{grown, rebase}

@@ -10,15 +10,15 @@ use Rattle.io_edge.specs.Lines.{AwaitsBytes, Reading, TextLine, Whole, TooLong}
 use Rattle.io_edge.specs.Sink.{AppendsPrefix}
 use Rattle.io_edge.specs.declared.lines.Line.{Line}
 use Rattle.io_edge.specs.declared.lines.Line.TheVariants as one
-use Rattle.session_run.specs.Acts.{Lines}
-use Rattle.session_run.specs.Cursors.{Calls, Cursor, Makes}
-use Rattle.session_run.specs.Pins.{AreHeld, MovePins}
+use Rattle.session_acts.specs.Acts.{Lines}
+use Rattle.session_acts.specs.Cursors.{Calls, Cursor, Makes}
+use Rattle.session_acts.specs.Pins.{AreHeld, MovePins}
+use Rattle.session_acts.specs.Watching.{Standing}
+use Rattle.session_acts.specs.declared.end.EndStatus.{EndStatus}
+use Rattle.session_acts.specs.declared.end.EndStatus.TheVariants.{Done, SourceFault, SinkFault, NoMemory, InputTooLong, Worn}
 use Rattle.session_run.specs.Responds.{IsFit}
 use Rattle.session_run.specs.Turn.{ReadsLines}
-use Rattle.session_run.specs.Watching.{Standing}
 use Rattle.session_run.specs.declared.respond.Responder.{Responder}
-use Rattle.session_run.specs.declared.settings.EndStatus.{EndStatus}
-use Rattle.session_run.specs.declared.settings.EndStatus.TheVariants.{Done, SourceFault, SinkFault, NoMemory, InputTooLong, Worn}
 use Rattle.session_run.specs.declared.settings.Settings.{Settings}
 use Rattle.store_core.specs.Calls.{NotRaised}
 use Rattle.store_core.specs.Stored.{HoldsPin}

@@ -2,7 +2,7 @@
 //! reopening loses what was acknowledged.
 ghost use Rattle.drill_run.specs.Truths.{DrillsAreTrue, ReopeningsKeep};
 
-use session_run::dialogues_are_true;
+use session_acts::dialogues_are_true;
 use store_machine::{pins_stay, rebases_keep, replies_tell, runs_stay_sound};
 
 /// In each part of a drill, up to a reopening, each session's searches, cursors, lookups and watches that came to their

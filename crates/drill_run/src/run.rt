@@ -3,9 +3,9 @@ ghost use Rattle.std.specs.Prelude.{◌≡◌, ◌≢◌, ◌≤◌, ◌<◌, �
 ghost use Rattle.drill_core.specs.Worlds.{HasNoFailures};
 ghost use Rattle.io_edge.specs.Faults.{Rose};
 ghost use Rattle.io_edge.specs.Lines.{TextLine, done_bytes};
-ghost use Rattle.session_run.specs.Cursors.{Calls};
+ghost use Rattle.session_acts.specs.Cursors.{Calls};
+ghost use Rattle.session_acts.specs.Served.{EndsAs};
 ghost use Rattle.session_run.specs.Servable.{IsServable};
-ghost use Rattle.session_run.specs.Served.{EndsAs};
 ghost use Rattle.session_run.specs.Turn.{IsFresh, IsNextLine, ReadsOn, TakesNone};
 ghost use Rattle.store_core.specs.Stored.{empty};
 ghost use Rattle.store_disk.specs.InMemory.{StandsInMemory};

@@ -3,13 +3,13 @@ ghost use Rattle.std.specs.Prelude.{◌≡◌, ◌≤◌, ◌++◌, [], IfOk, Li
 ghost use Rattle.std.specs.List.{AllByRecursion};
 ghost use Rattle.disk_pair.specs.declared.choice.Which.TheVariants.{First, Second};
 ghost use Rattle.io_edge.specs.Lines.{TextLine, TooLong, Whole};
+ghost use Rattle.session_acts.specs.Pins.{AreHeld};
+ghost use Rattle.session_acts.specs.Watching.{nothing_kept};
 ghost use Rattle.session_run.specs.Opened.{opened};
-ghost use Rattle.session_run.specs.Pins.{AreHeld};
 ghost use Rattle.session_run.specs.Responds.{IsFit};
 ghost use Rattle.session_run.specs.Servable.{IsServable};
 ghost use Rattle.session_run.specs.Standings.{standing_of};
 ghost use Rattle.session_run.specs.Walks.{cursors_of};
-ghost use Rattle.session_run.specs.Watching.{nothing_kept};
 ghost use Rattle.shell_lang.specs.Command.{TakesLines};
 ghost use Rattle.shell_lang.specs.Reply.{text_of};
 ghost use Rattle.store_core.specs.Stored.{HoldsPin};

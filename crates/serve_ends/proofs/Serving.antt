@@ -4,7 +4,7 @@ use Rattle.std.proofs.lemmas.Bool.{cases_lt}
 use Rattle.std.proofs.lemmas.List.{get_or-map, length-map}
 use Rattle.io_edge.specs.declared.sinks.Sink as put
 use Rattle.io_edge.specs.declared.sources.Source as taken
-use Rattle.session_run.specs.Cursors.{Calls}
+use Rattle.session_acts.specs.Cursors.{Calls}
 use Rattle.session_run.specs.declared.settings.Settings.{Settings}
 use Rattle.store_machine.specs.Runs.{IsCalm, IsRun, calls_of}
 use Rattle.store_machine.specs.declared.machine.State.{State}

@@ -1,9 +1,9 @@
 -- For callers: what a session leaves of an end, by the calls that were made for it.
 use Rattle.io_edge.specs.declared.sinks.Sink as put
 use Rattle.io_edge.specs.declared.sources.Source as taken
-use Rattle.session_run.specs.Cursors.{Calls}
-use Rattle.session_run.specs.Served.{EndsAs, IsServedBy}
-use Rattle.session_run.specs.declared.settings.EndStatus.{EndStatus}
+use Rattle.session_acts.specs.Cursors.{Calls}
+use Rattle.session_acts.specs.Served.{EndsAs, IsServedBy}
+use Rattle.session_acts.specs.declared.end.EndStatus.{EndStatus}
 use Rattle.session_run.specs.declared.settings.Settings.{Settings}
 use Rattle.serve_ends.specs.declared.end.End.{End}
 use Rattle.serve_ends.specs.Status.{IsStatusOf}

@@ -9,13 +9,13 @@ use Rattle.par_search.specs.declared.fault.SearchFault.TheVariants as faults
 use Rattle.store_core.specs.Calls.{NotRaised, SameHeld}
 use Rattle.store_core.specs.declared.service.Service as meaning
 use Rattle.store_machine.specs.Searches.{Place}
-use Rattle.session_run.specs.Cursors.{Calls}
+use Rattle.session_acts.specs.Cursors.{Calls}
+use Rattle.session_acts.proofs.LookedUp.{fetches_leave}
 use Rattle.session_run.specs.Made.{Uses}
 use Rattle.session_run.specs.Walks.{AreWritten, GoesOn, Stretch, progress_by}
 use Rattle.session_run.specs.declared.listing.Progress.{Progress}
 use Rattle.session_run.proofs.Joined.{uses-kept}
 use Rattle.session_run.proofs.Listed.{partly}
-use Rattle.session_run.proofs.LookedUp.{fetches_leave}
 use Rattle.session_run.proofs.Pages.{moved_to}
 
 -- nothing was asked

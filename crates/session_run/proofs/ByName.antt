@@ -6,7 +6,7 @@ use Rattle.std.specs.Map.{lookup, lookup_key, remove_entry, set_value}
 use Rattle.std.specs.Prelude.{Vec}
 use Rattle.std.specs.declared.alloc.Global.{Global}
 use Rattle.indexmap.specs.IndexMap.{insert_entry}
-use Rattle.session_run.specs.Cursors.{IsNoName}
+use Rattle.session_acts.specs.Cursors.{IsNoName}
 use Rattle.session_run.specs.Opened.{IsTaken, named}
 use Rattle.session_run.specs.Walks.{IsNamedAt, cursor_of, cursors_of}
 use Rattle.session_run.specs.declared.cursors.Cursor as rust

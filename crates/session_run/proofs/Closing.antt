@@ -3,13 +3,13 @@ use Rattle.std.proofs.Common.{◌≡◌, ◌++◌, ap, append-nil, arith, IfSome
 use Rattle.io_edge.specs.Lines.{TextLine, lines_of}
 use Rattle.io_edge.specs.declared.sinks.Sink as sinks
 use Rattle.io_edge.specs.declared.sources.Source as sources
-use Rattle.session_run.specs.Cursors.{Calls, unpins}
-use Rattle.session_run.specs.Served.{EndsAs, IsAllOfTaken, IsServed, IsServedBy, TakesAtMost, Writes, WritesForTaken}
+use Rattle.session_acts.specs.Cursors.{Calls, unpins}
+use Rattle.session_acts.specs.Served.{EndsAs, IsAllOfTaken, IsServed, IsServedBy, TakesAtMost, Writes, WritesForTaken}
+use Rattle.session_acts.specs.Transcript.{IsDialogue, IsPrefixOf, InClosing, Stops, WornAt}
+use Rattle.session_acts.specs.Watching.{Standing, nothing_kept}
+use Rattle.session_acts.specs.declared.end.EndStatus.{EndStatus}
+use Rattle.session_acts.specs.declared.end.EndStatus.TheVariants.{Done, SourceFault, SinkFault, NoMemory, InputTooLong, Worn}
 use Rattle.session_run.specs.Serving.{AnswersTaken, Ends, Serves}
-use Rattle.session_run.specs.Transcript.{IsDialogue, IsPrefixOf, InClosing, Stops, WornAt}
-use Rattle.session_run.specs.Watching.{Standing, nothing_kept}
-use Rattle.session_run.specs.declared.settings.EndStatus.{EndStatus}
-use Rattle.session_run.specs.declared.settings.EndStatus.TheVariants.{Done, SourceFault, SinkFault, NoMemory, InputTooLong, Worn}
 
 -- what was written, in other words
 pub writes_as : (input put put' : Option (List ℕ)) (P Q : List ℕ → List ℕ → Type 0)

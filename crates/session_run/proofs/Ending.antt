@@ -10,12 +10,12 @@ use Rattle.store_machine.specs.declared.machine.Event.{Event}
 use Rattle.store_machine.specs.declared.machine.Event.TheVariants as events
 use Rattle.store_machine.specs.declared.machine.Reply.{Reply}
 use Rattle.store_machine.specs.declared.machine.Reply.TheVariants as replies
-use Rattle.session_run.specs.Acts.{Answers, IsCutShort, Lines, Lists, MaySearch, Search, Searched}
-use Rattle.session_run.specs.Cursors.{Calls, Cursor, IsSearched}
+use Rattle.session_acts.specs.Acts.{Answers, IsCutShort, Lines, Lists, MaySearch, Search, Searched}
+use Rattle.session_acts.specs.Cursors.{Calls, Cursor, IsSearched}
+use Rattle.session_acts.specs.Texts.{IsPatternOf}
+use Rattle.session_acts.specs.Transcript.{IsPrefixOf}
 use Rattle.session_run.specs.Made.{Answered, Broken, Said, Tells, Unsaid}
 use Rattle.session_run.specs.Searched.{IsLastLine, PinAnswer, Returns}
-use Rattle.session_run.specs.Texts.{IsPatternOf}
-use Rattle.session_run.specs.Transcript.{IsPrefixOf}
 use Rattle.session_run.specs.Walks.{Broke, Listed, Listing, Part, Whole}
 use Rattle.session_run.specs.declared.listing.Walk.{Walk}
 use Rattle.session_run.specs.declared.stop.Stop.{Stop}

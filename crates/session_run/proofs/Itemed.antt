@@ -7,8 +7,8 @@ use Rattle.store_core.specs.declared.service.Service as meaning
 use Rattle.store_machine.specs.declared.machine.Event.TheVariants as events
 use Rattle.store_machine.specs.declared.machine.Reply.{Reply}
 use Rattle.store_machine.specs.declared.machine.State.{State}
-use Rattle.session_run.specs.Acts.{Answers, Fault, FindData, FoundData, IsDataLine, MayFind, item_line}
-use Rattle.session_run.specs.Cursors.{Cursor}
+use Rattle.session_acts.specs.Acts.{Answers, Fault, FindData, FoundData, IsDataLine, MayFind, item_line}
+use Rattle.session_acts.specs.Cursors.{Cursor}
 use Rattle.session_run.specs.Made.{AnsweredBy, Tells}
 use Rattle.session_run.specs.declared.stop.Stop.{Stop}
 use Rattle.session_run.specs.declared.stop.Stop.TheVariants as stops

@@ -15,10 +15,10 @@ use Rattle.store_machine.specs.Searches.{At, End, Place}
 use Rattle.store_machine.specs.declared.machine.State.{State}
 use Rattle.store_machine.specs.declared.machine.Step.{Step}
 use Rattle.lookup.proofs.Held.{none_taken}
-use Rattle.session_run.specs.Cursors.{Calls}
+use Rattle.session_acts.specs.Cursors.{Calls}
+use Rattle.session_acts.proofs.Held.{Leave, leave-moves, moves-more, moves-none}
 use Rattle.session_run.specs.Made.{Uses}
 use Rattle.session_run.specs.Searched.{Begins}
-use Rattle.session_run.proofs.Held.{Leave, leave-moves, moves-more, moves-none}
 
 module _ {S : Type 0} {of : meaning.Ghosts S} where
   -- no call

@@ -28,13 +28,13 @@ use Rattle.store_machine.specs.declared.machine.Event.TheVariants as events
 use Rattle.store_machine.specs.declared.machine.Reply.{Reply}
 use Rattle.store_machine.specs.declared.machine.Reply.TheVariants as replies
 use Rattle.store_machine.specs.declared.machine.State.{State}
-use Rattle.session_run.specs.Acts.{Act, Answers, Ask, Asks, Fault, IsLineOf, Lines, MayAsk, MayChange, Note, Refused, Say, Says, note_lines}
-use Rattle.session_run.specs.Cursors.{Calls, Cursor}
+use Rattle.session_acts.specs.Acts.{Act, Answers, Ask, Asks, Fault, IsLineOf, Lines, MayAsk, MayChange, Note, Refused, Say, Says, note_lines}
+use Rattle.session_acts.specs.Cursors.{Calls, Cursor}
+use Rattle.session_acts.specs.Pins.{Leaves, effect}
+use Rattle.session_acts.specs.Texts.{IsPatternFault, IsPatternOf}
 use Rattle.session_run.specs.Made.{Answered, AnsweredBy, Broken, Gives, IsLineIn, Said, Tells, Unsaid, Uses, Writes, without_room}
-use Rattle.session_run.specs.Pins.{Leaves, effect}
 use Rattle.session_run.specs.Responds.{IsTextRefusal}
 use Rattle.session_run.specs.Searched.{Begins, IsFaultLine, IsPatternRefusal}
-use Rattle.session_run.specs.Texts.{IsPatternFault, IsPatternOf}
 use Rattle.session_run.specs.declared.stop.Stop.{Stop}
 use Rattle.session_run.specs.declared.stop.Stop.TheVariants as stops
 use Rattle.session_run.proofs.Joined.{uses-kept}

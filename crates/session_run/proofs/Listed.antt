@@ -13,14 +13,14 @@ use Rattle.store_core.specs.declared.service.Service as meaning
 use Rattle.store_machine.specs.Answers.{AreMatched}
 use Rattle.store_machine.specs.Searches.{Place, At, fetched, records_of}
 use Rattle.store_machine.specs.Structures.{IsNeedOf}
-use Rattle.session_run.specs.Acts.{Lines}
-use Rattle.session_run.specs.Cursors.{Calls, IsSearched}
+use Rattle.session_acts.specs.Acts.{Lines}
+use Rattle.session_acts.specs.Cursors.{Calls, IsSearched}
+use Rattle.session_acts.proofs.Held.{leave-same}
+use Rattle.session_acts.proofs.LookedUp.{fetches_leave}
+use Rattle.session_acts.proofs.Listings.{searched_more, searched_none}
 use Rattle.session_run.specs.Made.{Uses}
 use Rattle.session_run.specs.Walks.{ArePartlyWritten, AreWritten, Listing, Pages, Stretch}
 use Rattle.session_run.specs.declared.listing.Shown.{Shown}
-use Rattle.session_run.proofs.Held.{leave-same}
-use Rattle.session_run.proofs.LookedUp.{fetches_leave}
-use Rattle.session_run.proofs.Listings.{searched_more, searched_none}
 use Rattle.session_run.proofs.Pages.{moved_to}
 
 pub text-append : (xs ys : Lines) → text_of (xs ++ ys) ≡ text_of xs ++ text_of ys

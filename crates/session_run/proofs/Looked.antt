@@ -25,25 +25,25 @@ use Rattle.store_machine.specs.declared.machine.Change.{Change}
 use Rattle.store_machine.specs.declared.machine.Event.TheVariants as events
 use Rattle.store_machine.specs.declared.machine.Found.{Found}
 use Rattle.store_machine.specs.declared.machine.Reply.TheVariants as replies
-use Rattle.session_run.specs.Acts.{Act, AllSame, AllSimilar, Answers, Ask, Asks, Closed, Does, DoesAll, Fault, FoundData, IsNew, Lines, ListedSame, ListedSimilar, MayAsk, NewLost, Opened, Refused, RegisterNew, RegisteredEach, RegisteredNew, Responds, Same, SameLost, Say, Says, Searched, Silence, Similar, SimilarLost, Turned, same_lines, similar_lines}
-use Rattle.session_run.specs.Cursors.{Calls, Cursor}
-use Rattle.session_run.specs.Lookups.{FindsSame, FindsSimilar, LooksUp}
+use Rattle.session_acts.specs.Acts.{Act, AllSame, AllSimilar, Answers, Ask, Asks, Closed, Does, DoesAll, Fault, FoundData, IsNew, Lines, ListedSame, ListedSimilar, MayAsk, NewLost, Opened, Refused, RegisterNew, RegisteredEach, RegisteredNew, Responds, Same, SameLost, Say, Says, Searched, Silence, Similar, SimilarLost, Turned, same_lines, similar_lines}
+use Rattle.session_acts.specs.Cursors.{Calls, Cursor}
+use Rattle.session_acts.specs.Lookups.{FindsSame, FindsSimilar, LooksUp}
+use Rattle.session_acts.specs.Pins.{AreApart, HeldBy, MovePins, Takes}
+use Rattle.session_acts.specs.Texts.{IsTextFault}
+use Rattle.session_acts.specs.Watching.{Standing, Watched}
+use Rattle.session_acts.proofs.Found.{IsPrinted}
+use Rattle.session_acts.proofs.Held.{apart-more, leave-apart, leave-moves}
+use Rattle.session_acts.proofs.LookedUp.{fetches_leave, pin_returned}
+use Rattle.session_acts.proofs.WatchActs.{asks_no_watch, watch_is}
 use Rattle.session_run.specs.Made.{Answered, AnsweredBy, Broken, Said, TellsAll, Unsaid, Uses, Writes}
-use Rattle.session_run.specs.Pins.{AreApart, HeldBy, MovePins, Takes}
 use Rattle.session_run.specs.Responds.{IsTextRefusal}
 use Rattle.session_run.specs.Searched.{IsFaultLine}
 use Rattle.session_run.specs.Standings.{both}
-use Rattle.session_run.specs.Texts.{IsTextFault}
-use Rattle.session_run.specs.Watching.{Standing, Watched}
 use Rattle.session_run.specs.declared.stop.Stop.{Stop}
 use Rattle.session_run.specs.declared.stop.Stop.TheVariants as stops
-use Rattle.session_run.proofs.Found.{IsPrinted}
-use Rattle.session_run.proofs.Held.{apart-more, leave-apart, leave-moves}
 use Rattle.session_run.proofs.Joined.{uses-kept}
 use Rattle.session_run.proofs.Lines.{broken, noted, said}
-use Rattle.session_run.proofs.LookedUp.{fetches_leave, pin_returned}
 use Rattle.session_run.proofs.Standing.{looks_still, over-append}
-use Rattle.session_run.proofs.WatchActs.{asks_no_watch, watch_is}
 
 -- a text that is refused
 pub text_unread : {size : ℕ} {cursors : List Cursor} (Allowed : Act → Type 0) (format : Format) (text : List ℕ)

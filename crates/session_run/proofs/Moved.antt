@@ -10,8 +10,8 @@ use Rattle.store_machine.specs.Searches.{At}
 use Rattle.store_machine.specs.declared.machine.Event.TheVariants as events
 use Rattle.store_machine.specs.declared.machine.Reply.{Reply}
 use Rattle.store_machine.specs.declared.machine.Reply.TheVariants as replies
-use Rattle.session_run.specs.Acts.{Ended, Lines, Lost, Paged, page_end}
-use Rattle.session_run.specs.Cursors.{Calls, Cursor}
+use Rattle.session_acts.specs.Acts.{Ended, Lines, Lost, Paged, page_end}
+use Rattle.session_acts.specs.Cursors.{Calls, Cursor}
 use Rattle.session_run.specs.Made.{Answered, Said, Tells, Unsaid}
 use Rattle.session_run.specs.Walks.{AreWritten, Counts, CursorAnswer, EndsPage, IsNoPage, IsPage, Pages, cursor_of}
 use Rattle.session_run.specs.declared.cursors.Cursor as rust

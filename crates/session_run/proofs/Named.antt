@@ -2,7 +2,7 @@
 use Rattle.std.proofs.Common.{◌≡◌, ◌++◌, ◌<◌, ◌∙◌, ap, arith, drop, drop-cons, get_or, length, List, [], ◌∷◌, map, refl, set, subst, suc, sym, take, zero, ℕ}
 use Rattle.std.proofs.lemmas.List.{map-append, take-append-drop}
 use Rattle.std.specs.List.{remove}
-use Rattle.session_run.specs.Cursors.{Cursor, IsNoName}
+use Rattle.session_acts.specs.Cursors.{Cursor, IsNoName}
 use Rattle.session_run.specs.Walks.{AreSized, IsNamedAt, cursor_of, cursors_of}
 use Rattle.session_run.specs.declared.cursors.Cursor as rust
 

@@ -27,16 +27,16 @@ use Rattle.watch_list.specs.Notes as noted
 use Rattle.watch_list.specs.Notes.{IsListAfter, LeavesMatch}
 use Rattle.watch_list.specs.Watches.{Watch}
 use Rattle.watch_list.proofs.Right.{OneStructure}
-use Rattle.session_run.specs.Acts.{Ask, Asks, Fault, MayAsk, Responds}
-use Rattle.session_run.specs.Cursors.{Calls, Cursor}
+use Rattle.session_acts.specs.Acts.{Ask, Asks, Fault, MayAsk, Responds}
+use Rattle.session_acts.specs.Cursors.{Calls, Cursor}
+use Rattle.session_acts.specs.Watching.{AfterReply, AreNoted, IsListOver, IsNoted, LeavesHit, Watched}
+use Rattle.session_acts.proofs.Parting.{one_call}
 use Rattle.session_run.specs.Made.{Answered, AnsweredBy, Gives, Writes}
 use Rattle.session_run.specs.Standings.{IsNotedBy, both, watched, watched_all}
-use Rattle.session_run.specs.Watching.{AfterReply, AreNoted, IsListOver, IsNoted, LeavesHit, Watched}
 use Rattle.session_run.specs.declared.stop.Stop.{Stop}
 use Rattle.session_run.specs.declared.stop.Stop.TheVariants as stops
 use Rattle.session_run.proofs.Joined.{uses-kept}
 use Rattle.session_run.proofs.Lines.{broken, in_line, said}
-use Rattle.session_run.proofs.Parting.{one_call}
 use Rattle.session_run.proofs.Standing.{rests}
 
 -- watches that stay

@@ -8,17 +8,18 @@ use Rattle.smarts_parse.specs.declared.pattern.Pattern.{Pattern}
 use Rattle.store_machine.specs.Searches.{Place, At}
 use Rattle.store_machine.specs.declared.machine.Event.TheVariants as events
 use Rattle.store_machine.specs.declared.machine.Reply.TheVariants as replies
-use Rattle.session_run.specs.Acts.{Advances, Answers, Close, Closed, Fault, IsNamed, Lines, MayClose, MayOpen, MayTurn, Open, Opened, Turn, Turned, new_cursor}
-use Rattle.session_run.specs.Cursors.{Calls, Cursor, IsNoName, unpins}
+use Rattle.session_acts.specs.Acts.{Advances, Answers, Close, Closed, Fault, IsNamed, Lines, MayClose, MayOpen, MayTurn, Open, Opened, Turn, Turned, new_cursor}
+use Rattle.session_acts.specs.Cursors.{Calls, Cursor, IsNoName, unpins}
+use Rattle.session_acts.specs.Pins.{AreHeld, HeldAfter, HeldBy, MovePins, Returns, SameOthers}
+use Rattle.session_acts.specs.Texts.{IsPatternOf}
+use Rattle.session_acts.specs.Transcript.{IsPrefixOf}
+use Rattle.session_acts.proofs.Held.{held-at, held-same, held-without, others-without, same_others, same_others-more}
 use Rattle.session_run.specs.Made.{Answered, Tells}
 use Rattle.session_run.specs.Opened.{opened}
-use Rattle.session_run.specs.Pins.{AreHeld, HeldAfter, HeldBy, MovePins, Returns, SameOthers}
 use Rattle.session_run.specs.Responds.{IsFit}
 use Rattle.session_run.specs.Searched.{IsNew}
 use Rattle.session_run.specs.Searched as searched
 use Rattle.session_run.specs.Servable.{IsServable}
-use Rattle.session_run.specs.Texts.{IsPatternOf}
-use Rattle.session_run.specs.Transcript.{IsPrefixOf}
 use Rattle.session_run.specs.Walks.{AreSized, CursorAnswer, IsNamedAt, cursor_of, cursors_of}
 use Rattle.session_run.specs.declared.cursors.Cursor as rust
 use Rattle.session_run.specs.declared.cursors.Cursors.{Cursors}
@@ -26,7 +27,6 @@ use Rattle.session_run.specs.declared.settings.Settings.{Settings}
 use Rattle.session_run.specs.declared.stop.Stop.{Stop}
 use Rattle.session_run.specs.declared.stop.Stop.TheVariants as stops
 use Rattle.session_run.proofs.Ending.{unpin}
-use Rattle.session_run.proofs.Held.{held-at, held-same, held-without, others-without, same_others, same_others-more}
 use Rattle.session_run.proofs.Lines.{answered_as, broken, noted, said}
 use Rattle.session_run.proofs.Named.{pushed, removed, set-split, sized-at, sized-removed, sized-set, split}
 

@@ -1,8 +1,8 @@
 -- The lines of records, one record after another.
 use Rattle.std.proofs.Common.{◌≡◌, ◌∙◌, ◌+◌, ◌++◌, ap, ap₂, append_assoc, append-nil, arith, Bool, false, if◌then◌else◌, inl, inr, IsTrue, length, length-append, List, [], ◌∷◌, None, Option, refl, Some, subst, suc, sym, true, zero, ℕ}
 use Rattle.io_edge.specs.Lines.{AwaitsBytes, Reading, TextLine, lines_left}
-use Rattle.session_run.specs.Records.{behind_record, first_record, records_in}
-use Rattle.session_run.specs.Requests.{BeginWithRecords, HasNoEnd, ends_record}
+use Rattle.session_acts.specs.Records.{behind_record, first_record, records_in}
+use Rattle.session_acts.specs.Requests.{BeginWithRecords, HasNoEnd, ends_record}
 use Rattle.session_run.specs.Taken.{AreTaken, IsOne, IsPart, IsRecordPart, record_of}
 use Rattle.session_run.specs.Turn.{ReadsLines, ReadsOn, TakesPart, TakesRecord, TakesRecordLines}
 use Rattle.session_run.specs.declared.records.Part.{Part}

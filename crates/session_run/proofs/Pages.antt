@@ -18,7 +18,7 @@ use Rattle.store_machine.specs.Searches.{Place, At, End}
 use Rattle.store_machine.specs.declared.machine.Event.TheVariants as events
 use Rattle.store_machine.specs.declared.machine.Found.{Found}
 use Rattle.store_machine.specs.declared.machine.Reply.TheVariants as replies
-use Rattle.session_run.specs.Cursors.{Calls}
+use Rattle.session_acts.specs.Cursors.{Calls}
 use Rattle.session_run.specs.Walks.{ArePartlyWritten, AreWritten, IsLost, Pages}
 use Rattle.session_run.specs.declared.listing.Shown.{Shown}
 

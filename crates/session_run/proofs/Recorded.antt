@@ -6,15 +6,15 @@ use Rattle.std.specs.declared.alloc.AllocError.{AllocError}
 use Rattle.std.specs.declared.alloc.Global.{Global}
 use Rattle.std.specs.declared.vec.Vec.{Vec}
 use Rattle.io_edge.specs.Lines.{TextLine, TooLong, Whole}
-use Rattle.session_run.specs.Records.{bytes_in, counted}
-use Rattle.session_run.specs.Requests.{has_long, molfile_text}
+use Rattle.session_acts.specs.Records.{bytes_in, counted}
+use Rattle.session_acts.specs.Requests.{has_long, molfile_text}
+use Rattle.session_acts.specs.Transcript.{IsPrefixOf}
+use Rattle.session_acts.specs.declared.limits.TheConstants.{MOST_COUNTED}
 use Rattle.session_run.specs.Taken.{AreKept, AreTaken, IsKept, IsPart, counted_all}
-use Rattle.session_run.specs.Transcript.{IsPrefixOf}
 use Rattle.session_run.specs.declared.records.Kept.{Kept}
 use Rattle.session_run.specs.declared.records.Part.{Part}
 use Rattle.session_run.specs.declared.records.Part.TheVariants as parts
 use Rattle.session_run.specs.declared.records.SdTexts.{SdTexts}
-use Rattle.session_run.specs.declared.records.TheConstants.{MOST_COUNTED}
 
 -- how many bytes are counted of a part with this text
 abbrev pub bytes_of : Part → List ℕ → ℕ

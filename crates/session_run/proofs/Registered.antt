@@ -26,25 +26,25 @@ use Rattle.store_machine.specs.declared.machine.Change.TheVariants as changes
 use Rattle.store_machine.specs.declared.machine.Event.TheVariants as events
 use Rattle.store_machine.specs.declared.machine.State.{State}
 use Rattle.store_machine.specs.declared.machine.Step.{Step}
-use Rattle.session_run.specs.Acts.{Act, AnswersBy, Ask, Asks, Does, Fault, Faults, FoundData, Lines, ListedSame, ListedSimilar, Closed, MayAsk, MayChange, MayRegister, Opened, Refused, Refuses, RegisterEach, RegisteredEach, RegisteredNew, RegistersEach, Replies, Responds, Say, Says, Searched, Silence, Turned}
-use Rattle.session_run.specs.Cursors.{Calls, Cursor}
+use Rattle.session_acts.specs.Acts.{Act, AnswersBy, Ask, Asks, Does, Fault, Faults, FoundData, Lines, ListedSame, ListedSimilar, Closed, MayAsk, MayChange, MayRegister, Opened, Refused, Refuses, RegisterEach, RegisteredEach, RegisteredNew, RegistersEach, Replies, Responds, Say, Says, Searched, Silence, Turned}
+use Rattle.session_acts.specs.Cursors.{Calls, Cursor}
+use Rattle.session_acts.specs.Records.{counted}
+use Rattle.session_acts.specs.Requests.{has_long, molfile_text}
+use Rattle.session_acts.specs.Watching.{AfterCalls, Standing, Watched}
+use Rattle.session_acts.specs.declared.limits.TheConstants.{MOST_SD_BYTES}
+use Rattle.session_acts.proofs.WatchActs.{by_commit}
 use Rattle.session_run.specs.Made.{AnsweredBy, Broken, Said, Unsaid, Uses}
-use Rattle.session_run.specs.Records.{counted}
-use Rattle.session_run.specs.Requests.{has_long, molfile_text}
 use Rattle.session_run.specs.Responds.{IsTextRefusal}
 use Rattle.session_run.specs.Standings.{Keeps, both}
 use Rattle.session_run.specs.Taken.{AreKept, AreRead, AreTaken, IsReady, Registers}
-use Rattle.session_run.specs.Watching.{AfterCalls, Standing, Watched}
 use Rattle.session_run.specs.declared.records.Kept.{Kept}
 use Rattle.session_run.specs.declared.records.Kept.TheVariants as keeps
 use Rattle.session_run.specs.declared.records.SdTexts.{SdTexts}
-use Rattle.session_run.specs.declared.records.TheConstants.{MOST_SD_BYTES}
 use Rattle.session_run.specs.declared.stop.Stop.{Stop}
 use Rattle.session_run.specs.declared.stop.Stop.TheVariants as stops
 use Rattle.session_run.proofs.Joined.{uses-more}
 use Rattle.session_run.proofs.Lines.{answered_as, may_change, text_is}
 use Rattle.session_run.proofs.Standing.{over-append}
-use Rattle.session_run.proofs.WatchActs.{by_commit}
 
 -- the records that are left are not called for
 abbrev faults_of : List (Option (List TextLine)) → Lines

@@ -20,14 +20,14 @@ use Rattle.shell_lang.specs.declared.reply.Refusal.TheVariants as refusals
 use Rattle.shell_lang.proofs.Cuts.{no_space}
 use Rattle.store_machine.specs.declared.machine.Change.{Change}
 use Rattle.store_machine.specs.declared.machine.Change.TheVariants as changes
-use Rattle.session_run.specs.Acts.{Act, Allows, Fault, Lines, MayChange, Refused, RegisterEach, RequestAllows, RequestAnswer, Say}
-use Rattle.session_run.specs.Cursors.{Calls}
+use Rattle.session_acts.specs.Acts.{Act, Allows, Fault, Lines, MayChange, Refused, RegisterEach, RequestAllows, RequestAnswer, Say}
+use Rattle.session_acts.specs.Cursors.{Calls}
+use Rattle.session_acts.specs.Records.{behind_record, records_in}
+use Rattle.session_acts.specs.Requests.{Request, IsLong, TakesMolfile, has_long, molfile_text}
+use Rattle.session_acts.specs.Watching.{Standing}
 use Rattle.session_run.specs.Made.{Answered}
-use Rattle.session_run.specs.Records.{behind_record, records_in}
-use Rattle.session_run.specs.Requests.{Request, IsLong, TakesMolfile, has_long, molfile_text}
 use Rattle.session_run.specs.Responds.{IsLineWithout, IsTextChange, IsTextRefusal, change_by}
 use Rattle.session_run.specs.Turn.{IsNext}
-use Rattle.session_run.specs.Watching.{Standing}
 use Rattle.session_run.specs.declared.commands.TextChange.{TextChange}
 use Rattle.session_run.specs.declared.commands.Verb.{Verb}
 use Rattle.session_run.specs.declared.commands.Verb.TheVariants as verbs

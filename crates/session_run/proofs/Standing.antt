@@ -6,15 +6,15 @@ use Rattle.store_machine.specs.declared.machine.Event.{Event}
 use Rattle.store_machine.specs.declared.machine.Event.TheVariants as events
 use Rattle.store_machine.specs.declared.machine.Reply.{Reply}
 use Rattle.store_machine.specs.declared.machine.Reply.TheVariants as replies
-use Rattle.session_run.specs.Acts.{Act, AllSame, AllSimilar, Answers, Ask, Asks, Closed, Does, FoundData, Lines, ListedSame, ListedSimilar, MayAsk, MayClose, MayFind, MayOpen, MaySame, MaySearch, MaySimilar, MayTurn, Note, Opened, RegisterEach, RegisterNew, RegisteredEach, RegisteredNew, Responds, SameLost, Say, Says, Searched, SimilarLost, Turned, note_lines}
-use Rattle.session_run.specs.Cursors.{Calls, Cursor}
-use Rattle.session_run.specs.Lookups.{LooksUp}
+use Rattle.session_acts.specs.Acts.{Act, AllSame, AllSimilar, Answers, Ask, Asks, Closed, Does, FoundData, Lines, ListedSame, ListedSimilar, MayAsk, MayClose, MayFind, MayOpen, MaySame, MaySearch, MaySimilar, MayTurn, Note, Opened, RegisterEach, RegisterNew, RegisteredEach, RegisteredNew, Responds, SameLost, Say, Says, Searched, SimilarLost, Turned, note_lines}
+use Rattle.session_acts.specs.Cursors.{Calls, Cursor}
+use Rattle.session_acts.specs.Lookups.{LooksUp}
+use Rattle.session_acts.specs.Watching.{AfterCall, AfterCalls, Standing, Watched}
+use Rattle.session_acts.proofs.Passing.{advances_fetch}
 use Rattle.session_run.specs.Made.{Answered}
 use Rattle.session_run.specs.Standings.{both}
-use Rattle.session_run.specs.Watching.{AfterCall, AfterCalls, Standing, Watched}
 use Rattle.session_run.specs.declared.stop.Stop.{Stop}
 use Rattle.session_run.proofs.Lines.{answered_as}
-use Rattle.session_run.proofs.Passing.{advances_fetch}
 
 -- Calls that follow calls
 pub over-append : (xs ys : Calls) (a b c : List Watched) → AfterCalls xs a b → AfterCalls ys b c

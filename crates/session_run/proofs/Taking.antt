@@ -2,7 +2,7 @@
 use Rattle.std.proofs.Common.{◌≡◌, inl, inr, ℕ, zero, suc, ◌≤◌, Option, Some, List, [], ◌∷◌, ◌++◌, refl, sym, ap, ◌∙◌, subst, arith, append_assoc, append-nil, length-append}
 use Rattle.std.proofs.KnownBytes.{Consumes-nil, Consumes-trans}
 use Rattle.io_edge.specs.Lines.{TextLine, Whole, TooLong, Reading, AwaitsBytes}
-use Rattle.session_run.specs.Requests.{IsLast, IsLong, BeginWithMolfile, HasNoLast}
+use Rattle.session_acts.specs.Requests.{IsLast, IsLong, BeginWithMolfile, HasNoLast}
 use Rattle.session_run.specs.Turn.{ReadsLines, ReadsOn, TakesMolfileLines, TakesPart}
 use Rattle.session_run.specs.Taken.{IsPart}
 use Rattle.session_run.specs.declared.records.Part.{Part}

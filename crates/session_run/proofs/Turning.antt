@@ -6,23 +6,23 @@ use Rattle.io_edge.specs.Sink.{AppendsPrefix}
 use Rattle.shell_lang.specs.Reply.{text_of}
 use Rattle.store_core.specs.Calls.{SameHeld}
 use Rattle.store_core.specs.declared.service.Service as meaning
-use Rattle.session_run.specs.Acts.{Act, RequestAnswer, Responds}
-use Rattle.session_run.specs.Cursors.{Calls, Cursor}
+use Rattle.session_acts.specs.Acts.{Act, RequestAnswer, Responds}
+use Rattle.session_acts.specs.Cursors.{Calls, Cursor}
+use Rattle.session_acts.specs.Pins.{AreHeld, HeldAfter, SameOthers}
+use Rattle.session_acts.specs.Requests.{Request}
+use Rattle.session_acts.specs.Served.{IsInputFault}
+use Rattle.session_acts.specs.Watching.{Standing}
+use Rattle.session_acts.specs.declared.end.EndStatus.{EndStatus}
+use Rattle.session_acts.specs.declared.end.EndStatus.TheVariants.{Done, SourceFault, SinkFault, NoMemory, InputTooLong, Worn}
+use Rattle.session_acts.proofs.ActPins.{all_held, all_others}
+use Rattle.session_acts.proofs.Held.{held-same, same_others, same_others-more}
 use Rattle.session_run.specs.Made.{Answered, Broken, Did, Said, Unsaid, Uses}
-use Rattle.session_run.specs.Pins.{AreHeld, HeldAfter, SameOthers}
 use Rattle.session_run.specs.Responds.{KeepsPins}
-use Rattle.session_run.specs.Requests.{Request}
-use Rattle.session_run.specs.Served.{IsInputFault}
 use Rattle.session_run.specs.Turn.{IsNext, Puts, Replies, Takes, TakesRequest, Turns}
-use Rattle.session_run.specs.Watching.{Standing}
 use Rattle.session_run.specs.declared.stop.Stop.TheVariants as stops
 use Rattle.session_run.specs.declared.records.SdTexts.{SdTexts}
 use Rattle.session_run.specs.declared.request.Next.{Next}
 use Rattle.session_run.specs.declared.request.Next.TheVariants as nexts
-use Rattle.session_run.specs.declared.settings.EndStatus.{EndStatus}
-use Rattle.session_run.specs.declared.settings.EndStatus.TheVariants.{Done, SourceFault, SinkFault, NoMemory, InputTooLong, Worn}
-use Rattle.session_run.proofs.ActPins.{all_held, all_others}
-use Rattle.session_run.proofs.Held.{held-same, same_others, same_others-more}
 
 -- nothing is a prefix of what might have been put
 none_put : (put : Option (List ℕ)) (text : List ℕ) (put' : Option (List ℕ)) → Appends put put' []

@@ -18,12 +18,12 @@ use Rattle.store_machine.specs.declared.machine.Event.TheVariants as events
 use Rattle.store_machine.specs.declared.machine.Reply.TheVariants as replies
 use Rattle.watch_list.specs.Watches as list
 use Rattle.watch_list.specs.Watches.{Watch}
-use Rattle.session_run.specs.Acts.{MayHits, Responds, hit_lines}
-use Rattle.session_run.specs.Cursors.{Cursor}
+use Rattle.session_acts.specs.Acts.{MayHits, Responds, hit_lines}
+use Rattle.session_acts.specs.Cursors.{Cursor}
+use Rattle.session_acts.specs.Watching.{IsUnwatched, Watched, new_watch, watch_of}
 use Rattle.session_run.specs.Kept.{Fills, IsViewOf, TellsHits, Unwatches}
 use Rattle.session_run.specs.Made.{AnsweredBy, Tells}
 use Rattle.session_run.specs.Standings.{both, watched, watched_all}
-use Rattle.session_run.specs.Watching.{IsUnwatched, Watched, new_watch, watch_of}
 use Rattle.session_run.specs.declared.stop.Stop.{Stop}
 use Rattle.session_run.specs.declared.watches.View.{View}
 use Rattle.session_run.proofs.Looked.{looked_whole}

@@ -17,14 +17,14 @@ use Rattle.store_machine.specs.declared.machine.Reply.TheVariants as replies
 use Rattle.watch_list.specs.Watches as list
 use Rattle.watch_list.specs.Watches.{Watch}
 use Rattle.watch_list.specs.declared.list.TheConstants.{MOST_WATCHES}
-use Rattle.session_run.specs.Acts.{Act, Current, DoesAll, HitsLost, ListHits, MayUnwatch, Refilled, Refused, Responds, TakenOut, Unwatch, WatchLost, WatchedAll, watch_lines}
-use Rattle.session_run.specs.Acts as act
-use Rattle.session_run.specs.Cursors.{Calls, Cursor}
+use Rattle.session_acts.specs.Acts.{Act, Current, DoesAll, HitsLost, ListHits, MayUnwatch, Refilled, Refused, Responds, TakenOut, Unwatch, WatchLost, WatchedAll, watch_lines}
+use Rattle.session_acts.specs.Acts as act
+use Rattle.session_acts.specs.Cursors.{Calls, Cursor}
+use Rattle.session_acts.specs.Lookups.{FindsHits, LooksUp}
+use Rattle.session_acts.specs.Watching.{IsUnwatched, Standing, Watched, rebuilt_in, rebuilt_watch, watch_of, without}
 use Rattle.session_run.specs.Kept.{Adds, TellsHits, Unwatches}
-use Rattle.session_run.specs.Lookups.{FindsHits, LooksUp}
 use Rattle.session_run.specs.Made.{Answered, Said, Tells, Uses}
 use Rattle.session_run.specs.Standings.{both, watched, watched_all}
-use Rattle.session_run.specs.Watching.{IsUnwatched, Standing, Watched, rebuilt_in, rebuilt_watch, watch_of, without}
 use Rattle.session_run.specs.declared.stop.Stop.{Stop}
 use Rattle.session_run.proofs.Lines.{said}
 use Rattle.session_run.proofs.Looked.{looked_uses, looks_up}

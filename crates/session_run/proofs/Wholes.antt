@@ -4,7 +4,7 @@ use Rattle.std.specs.Prelude.{◌==◌}
 use Rattle.std.proofs.lemmas.Bool.Decides.{nat_tests}
 use Rattle.std.proofs.lemmas.List.{map-append}
 use Rattle.io_edge.specs.Lines.{AwaitsBytes, Piece, Reading, TextLine, as_line, before_first, ended_pieces, lines_behind, lines_left, lines_of, pieces, rest_as_line, text_of, whole_lines}
-use Rattle.session_run.specs.Requests.{AreAllWhole, BeginWith, BeginWithAll, BeginWithMolfile, BeginWithRecords, IsPartOfRequest, Request, ends_record}
+use Rattle.session_acts.specs.Requests.{AreAllWhole, BeginWith, BeginWithAll, BeginWithMolfile, BeginWithRecords, IsPartOfRequest, Request, ends_record}
 
 -- ---- lines of a text with one more LF
 

@@ -5,9 +5,9 @@ use Rattle.shell_lang.specs.Reply.{text_of}
 use Rattle.shell_lang.specs.declared.reply.Refusal.TheVariants as refusals
 use Rattle.smarts_parse.specs.Pattern.{PatternTerm}
 use Rattle.watch_list.specs.Watches.{Watch, filled}
-use Rattle.session_run.specs.Acts.{hit_lines}
+use Rattle.session_acts.specs.Acts.{hit_lines}
+use Rattle.session_acts.specs.Watching.{IsUnwatched, Watched, new_watch, watch_of, without}
 use Rattle.session_run.specs.Made.{Tells, TellsAll}
-use Rattle.session_run.specs.Watching.{IsUnwatched, Watched, new_watch, watch_of, without}
 use Rattle.session_run.specs.declared.stop.Stop.{Stop}
 use Rattle.session_run.specs.declared.watches.View.{View}
 

@@ -1,14 +1,4 @@
-pub mod Requests
-pub mod Records
-pub mod Texts
-pub mod Cursors
-pub mod Watching
-pub mod Lookups
-pub mod Acts
 pub mod Taken
-pub mod Pins
-pub mod Transcript
-pub mod Served
 pub mod Turn
 pub mod Made
 pub mod Opened
@@ -17,7 +7,5 @@ pub mod Walks
 pub mod Responds
 pub mod Serving
 pub mod Searched
-pub mod Dialogue
-pub mod Truths
 pub mod Standings
 pub mod Kept

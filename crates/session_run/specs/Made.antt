@@ -7,10 +7,10 @@ use Rattle.shell_lang.specs.declared.reply.Reply.TheVariants as replies
 use Rattle.store_core.specs.Calls.{NotRaised}
 use Rattle.store_core.specs.declared.service.Service as meaning
 use Rattle.store_machine.specs.declared.machine.Event.{Event}
-use Rattle.session_run.specs.Acts.{IsLineOf, Lines}
-use Rattle.session_run.specs.Cursors.{Calls, Makes}
-use Rattle.session_run.specs.Pins.{MovePins}
-use Rattle.session_run.specs.Transcript.{IsPrefixOf}
+use Rattle.session_acts.specs.Acts.{IsLineOf, Lines}
+use Rattle.session_acts.specs.Cursors.{Calls, Makes}
+use Rattle.session_acts.specs.Pins.{MovePins}
+use Rattle.session_acts.specs.Transcript.{IsPrefixOf}
 use Rattle.session_run.specs.declared.stop.Stop.{Stop}
 use Rattle.session_run.specs.declared.stop.Stop.TheVariants as stops
 

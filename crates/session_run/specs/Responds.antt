@@ -12,9 +12,9 @@ use Rattle.shell_lang.specs.declared.reply.Refusal.TheVariants as refusals
 use Rattle.store_core.specs.declared.service.Service as meaning
 use Rattle.store_machine.specs.declared.machine.Change.{Change}
 use Rattle.store_machine.specs.declared.machine.Change.TheVariants as changes
-use Rattle.session_run.specs.Cursors.{Cursor}
+use Rattle.session_acts.specs.Cursors.{Cursor}
+use Rattle.session_acts.specs.Pins.{AreHeld, SameOthers}
 use Rattle.session_run.specs.Opened.{opened}
-use Rattle.session_run.specs.Pins.{AreHeld, SameOthers}
 use Rattle.session_run.specs.Servable.{IsServable}
 use Rattle.session_run.specs.Walks.{AreSized, cursors_of}
 use Rattle.session_run.specs.declared.commands.TextChange.{TextChange}

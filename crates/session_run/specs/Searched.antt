@@ -15,9 +15,9 @@ use Rattle.store_machine.specs.Searches.{Place, At}
 use Rattle.store_machine.specs.Structures.{IsNeedOf}
 use Rattle.store_machine.specs.declared.machine.Event.TheVariants as events
 use Rattle.store_machine.specs.declared.machine.Reply.TheVariants as replies
-use Rattle.session_run.specs.Acts.{Lines, Lists}
-use Rattle.session_run.specs.Cursors.{Calls, Cursor, IsSearched, unpins}
-use Rattle.session_run.specs.Transcript.{IsPrefixOf}
+use Rattle.session_acts.specs.Acts.{Lines, Lists}
+use Rattle.session_acts.specs.Cursors.{Calls, Cursor, IsSearched, unpins}
+use Rattle.session_acts.specs.Transcript.{IsPrefixOf}
 use Rattle.session_run.specs.declared.listing.Walk.{Walk}
 use Rattle.session_run.specs.declared.stop.Stop.{Stop}
 use Rattle.session_run.specs.declared.stop.Stop.TheVariants as stops

@@ -1,14 +1,14 @@
 -- For private clauses alone: a session before the pins of its open cursors are given back.
 use Rattle.std.specs.Prelude.{◌≡◌, ℕ, List, [], Option, IfSome}
 use Rattle.io_edge.specs.Lines.{TextLine, lines_of, whole_lines}
-use Rattle.session_run.specs.Cursors.{Calls}
-use Rattle.session_run.specs.Dialogue.{AreExchanged, Exchange, replies_of, requests_of}
-use Rattle.session_run.specs.Requests.{AreAllWhole}
-use Rattle.session_run.specs.Served.{IsInputFault, Writes, WritesForTaken}
-use Rattle.session_run.specs.Transcript.{IsDialogue, Stops, WornAt}
-use Rattle.session_run.specs.Watching.{Standing, nothing_kept}
-use Rattle.session_run.specs.declared.settings.EndStatus.{EndStatus}
-use Rattle.session_run.specs.declared.settings.EndStatus.TheVariants.{Done, InputTooLong, SourceFault, Worn}
+use Rattle.session_acts.specs.Cursors.{Calls}
+use Rattle.session_acts.specs.Dialogue.{AreExchanged, Exchange, replies_of, requests_of}
+use Rattle.session_acts.specs.Requests.{AreAllWhole}
+use Rattle.session_acts.specs.Served.{IsInputFault, Writes, WritesForTaken}
+use Rattle.session_acts.specs.Transcript.{IsDialogue, Stops, WornAt}
+use Rattle.session_acts.specs.Watching.{Standing, nothing_kept}
+use Rattle.session_acts.specs.declared.end.EndStatus.{EndStatus}
+use Rattle.session_acts.specs.declared.end.EndStatus.TheVariants.{Done, InputTooLong, SourceFault, Worn}
 
 -- all requests that are whole in the bytes that were taken were answered, and nothing else was called or written
 abbrev pub AnswersTaken : ℕ → Calls → Standing → List ℕ → List ℕ → Type 0

@@ -4,11 +4,11 @@ use Rattle.smarts_parse.specs.Pattern.{pattern_of}
 use Rattle.store_core.specs.declared.words.CommitFault.{CommitFault}
 use Rattle.store_machine.specs.declared.machine.Change.{Change}
 use Rattle.watch_list.specs.Watches.{Watch}
-use Rattle.session_run.specs.Acts.{Lines}
-use Rattle.session_run.specs.Cursors.{Calls, Cursor}
+use Rattle.session_acts.specs.Acts.{Lines}
+use Rattle.session_acts.specs.Cursors.{Calls, Cursor}
+use Rattle.session_acts.specs.Watching.{AfterCalls, AreNoted, Standing, Watched}
 use Rattle.session_run.specs.Opened.{opened}
 use Rattle.session_run.specs.Walks.{cursors_of}
-use Rattle.session_run.specs.Watching.{AfterCalls, AreNoted, Standing, Watched}
 use Rattle.session_run.specs.declared.respond.Responder.{Responder}
 
 abbrev pub watched : Watch → Watched

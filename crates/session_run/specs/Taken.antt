@@ -7,16 +7,16 @@ use Rattle.mol_finish.specs.declared.fault.TextFault.{TextFault}
 use Rattle.sd_read.specs.Records.{IsMade}
 use Rattle.store_core.specs.Records.{Shared}
 use Rattle.shell_lang.specs.Reply as line
-use Rattle.session_run.specs.Acts.{Act, AnswersBy, Lines, MayRegister, Refused, Say}
-use Rattle.session_run.specs.Cursors.{Calls}
-use Rattle.session_run.specs.Records.{bytes_in, counted, first_record}
-use Rattle.session_run.specs.Requests.{ends_record, has_long, molfile_text}
+use Rattle.session_acts.specs.Acts.{Act, AnswersBy, Lines, MayRegister, Refused, Say}
+use Rattle.session_acts.specs.Cursors.{Calls}
+use Rattle.session_acts.specs.Records.{bytes_in, counted, first_record}
+use Rattle.session_acts.specs.Requests.{ends_record, has_long, molfile_text}
+use Rattle.session_acts.specs.declared.limits.TheConstants.{MOST_COUNTED, MOST_SD_BYTES}
 use Rattle.session_run.specs.declared.records.Kept.{Kept}
 use Rattle.session_run.specs.declared.records.Kept.TheVariants as keeps
 use Rattle.session_run.specs.declared.records.Part.{Part}
 use Rattle.session_run.specs.declared.records.Part.TheVariants as parts
 use Rattle.session_run.specs.declared.records.SdTexts.{SdTexts}
-use Rattle.session_run.specs.declared.records.TheConstants.{MOST_COUNTED, MOST_SD_BYTES}
 
 -- what was taken of the lines of a record: their text, unless a line is too long, or the text is big or lost
 abbrev pub IsPart : Part → List TextLine → List ℕ → Type 0

@@ -13,19 +13,19 @@ use Rattle.io_edge.specs.declared.lines.LineFault.{LineFault}
 use Rattle.io_edge.specs.declared.lines.LineFault.TheVariants as line_faults
 use Rattle.shell_lang.specs.Command.{IsLine, StartsMolfile, TakesLines, TakesRecords, molfile_command, records_command}
 use Rattle.shell_lang.specs.Reply.{text_of}
-use Rattle.session_run.specs.Acts.{RequestAnswer}
-use Rattle.session_run.specs.Cursors.{Calls}
+use Rattle.session_acts.specs.Acts.{RequestAnswer}
+use Rattle.session_acts.specs.Cursors.{Calls}
+use Rattle.session_acts.specs.Records.{records_in}
+use Rattle.session_acts.specs.Requests.{Request, BeginWith, BeginWithMolfile, BeginWithRecords, HasNoEnd, IsLong}
+use Rattle.session_acts.specs.Watching.{Standing}
+use Rattle.session_acts.specs.declared.end.EndStatus.{EndStatus}
+use Rattle.session_acts.specs.declared.end.EndStatus.TheVariants.{Done, SourceFault, SinkFault, NoMemory, InputTooLong, Worn}
 use Rattle.session_run.specs.Made.{Did, WornIn}
-use Rattle.session_run.specs.Records.{records_in}
-use Rattle.session_run.specs.Requests.{Request, BeginWith, BeginWithMolfile, BeginWithRecords, HasNoEnd, IsLong}
 use Rattle.session_run.specs.Taken.{AreTaken, IsOne, IsPart, IsRecordPart, record_of}
-use Rattle.session_run.specs.Watching.{Standing}
 use Rattle.session_run.specs.declared.records.Part.{Part}
 use Rattle.session_run.specs.declared.records.SdTexts.{SdTexts}
 use Rattle.session_run.specs.declared.request.Next.{Next}
 use Rattle.session_run.specs.declared.request.Next.TheVariants as nexts
-use Rattle.session_run.specs.declared.settings.EndStatus.{EndStatus}
-use Rattle.session_run.specs.declared.settings.EndStatus.TheVariants.{Done, SourceFault, SinkFault, NoMemory, InputTooLong, Worn}
 
 abbrev pub end_by : LineFault → EndStatus
 end_by line_faults.Source = SourceFault

@@ -12,8 +12,8 @@ use Rattle.store_machine.specs.Searches.{At, End, fetched, records_of}
 use Rattle.store_machine.specs.declared.machine.Event.TheVariants as events
 use Rattle.store_machine.specs.declared.machine.Found.{Found}
 use Rattle.store_machine.specs.declared.machine.Reply.TheVariants as replies
-use Rattle.session_run.specs.Acts.{Advances, Lines, page_end}
-use Rattle.session_run.specs.Cursors.{Calls, Cursor, IsSearched}
+use Rattle.session_acts.specs.Acts.{Advances, Lines, page_end}
+use Rattle.session_acts.specs.Cursors.{Calls, Cursor, IsSearched}
 use Rattle.session_run.specs.Made.{Tells}
 use Rattle.session_run.specs.declared.cursors.Cursor as rust
 use Rattle.session_run.specs.declared.listing.Progress.{Progress}

@@ -7,12 +7,12 @@ ghost use Rattle.store_core.specs.Replies.{IsLookOf, IsSoundChange, change_of, c
 ghost use Rattle.store_core.specs.declared.words.Change as asked;
 ghost use Rattle.store_machine.specs.declared.machine.Event.TheVariants as event;
 ghost use Rattle.store_machine.specs.History.{IsId};
-ghost use Rattle.session_run.specs.Acts.{Answers, MayAsk, MayChange, Responds};
-ghost use Rattle.session_run.specs.Cursors.{Cursor};
+ghost use Rattle.session_acts.specs.Acts.{Answers, MayAsk, MayChange, Responds};
+ghost use Rattle.session_acts.specs.Cursors.{Cursor};
+ghost use Rattle.session_acts.specs.Watching.{AreNoted};
 ghost use Rattle.session_run.specs.Made.{AnsweredBy, Gives};
 ghost use Rattle.session_run.specs.Responds.{IsTextRefusal, change_by};
 ghost use Rattle.session_run.specs.Standings.{IsNotedBy, both, watched_all};
-ghost use Rattle.session_run.specs.Watching.{AreNoted};
 
 use crate::say::{say, say_given, say_long};
 use crate::stop::Stop;

@@ -1,10 +1,10 @@
 //! Data items of records.
 ghost use Rattle.std.specs.Prelude.{◌≡◌, ◌⊎◌, List, MatchOption, None, Some, ℕ};
 ghost use Rattle.shell_lang.specs.Reply as line;
-ghost use Rattle.session_run.specs.Acts.{Answers, MayFind, item_line};
-ghost use Rattle.session_run.specs.Cursors.{Cursor};
+ghost use Rattle.session_acts.specs.Acts.{Answers, MayFind, item_line};
+ghost use Rattle.session_acts.specs.Cursors.{Cursor};
+ghost use Rattle.session_acts.specs.Records.{data_of};
 ghost use Rattle.session_run.specs.Made.{AnsweredBy, Tells};
-ghost use Rattle.session_run.specs.Records.{data_of};
 
 use crate::say::say;
 use crate::stop::Stop;

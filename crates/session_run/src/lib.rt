@@ -8,7 +8,6 @@
 mod commands;
 mod cursors;
 mod items;
-mod laws;
 mod listing;
 mod lookups;
 mod matching;
@@ -24,8 +23,8 @@ mod stop;
 mod texts;
 mod watches;
 
-pub use laws::{dialogues_are_true, searches_are_hits, services_are_true};
 pub use respond::Responder;
 pub use run::session;
-pub use settings::{EndStatus, Settings};
+pub use session_acts::EndStatus;
+pub use settings::Settings;
 pub use stop::Stop;

@@ -2,21 +2,16 @@
 //! No more bytes of a text are kept than a text with a structure may have, and none of a line that is too long.
 ghost use Rattle.std.specs.Prelude.{◌≡◌, ◌≤◌, ◌<◌, ◌++◌, ◌∷◌, [], ◌*◌, ◌+◌, length, List, min, OnErr, OnOk, Option, slice_get, Some, ℕ};
 ghost use Rattle.io_edge.specs.Lines.{TextLine, TooLong, Whole};
-ghost use Rattle.session_run.specs.Records.{counted};
+ghost use Rattle.session_acts.specs.Records.{counted};
+ghost use Rattle.session_acts.specs.Transcript.{IsPrefixOf};
 ghost use Rattle.session_run.specs.Taken.{AreTaken, IsKept, IsPart, IsRecordPart};
-ghost use Rattle.session_run.specs.Transcript.{IsPrefixOf};
 ghost use Rattle.shell_lang.specs.declared.command.TheConstants.{MOST_SD_RECORDS};
 
 use mol_finish::TextFault;
 use molfile_read::MolfileFault;
+use session_acts::{MOST_COUNTED, MOST_SD_BYTES};
 use shell_lang::Refusal;
 use std::alloc::{AllocError, Global};
-
-/// The most bytes that the texts of the records of one line may count.
-pub const MOST_SD_BYTES: u64 = 67_108_864;
-
-/// The most bytes that one of them counts: one more than a text with a structure may have.
-pub const MOST_COUNTED: u64 = 262_145;
 
 /// What was taken of the lines of a molfile or of a record.
 #[derive(Clone, Copy, Debug, PartialEq, Eq)]

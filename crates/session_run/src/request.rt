@@ -2,8 +2,8 @@
 ghost use Rattle.std.specs.Prelude.{◌≡◌, ◌≢◌, ◌<◌, ◌≤◌, ◌++◌, [], ◌∷◌, Err, IfOk, IsTrue, List, Ok, OnErr, OnOk};
 ghost use Rattle.io_edge.specs.Faults.{Rose};
 ghost use Rattle.io_edge.specs.Lines.{TextLine, done_bytes};
-ghost use Rattle.session_run.specs.Records.{records_in};
-ghost use Rattle.session_run.specs.Requests.{HasNoEnd, HasNoLast, IsPartOfRequest};
+ghost use Rattle.session_acts.specs.Records.{records_in};
+ghost use Rattle.session_acts.specs.Requests.{HasNoEnd, HasNoLast, IsPartOfRequest};
 ghost use Rattle.session_run.specs.Taken.{AreTaken, IsPart};
 ghost use Rattle.shell_lang.specs.declared.command.TheConstants.{MOST_SD_RECORDS};
 ghost use Rattle.io_edge.specs.NextLine.{OnLine};

@@ -2,8 +2,8 @@
 ghost use Rattle.std.specs.Prelude.{◌≡◌, ◌<◌, ◌+◌, List, Option, Some, length, ℕ};
 ghost use Rattle.io_edge.specs.Lines.{TextLine};
 ghost use Rattle.shell_lang.specs.Command.{AreIds};
-ghost use Rattle.session_run.specs.Acts.{RegisterEach, Responds};
-ghost use Rattle.session_run.specs.Cursors.{Cursor};
+ghost use Rattle.session_acts.specs.Acts.{RegisterEach, Responds};
+ghost use Rattle.session_acts.specs.Cursors.{Cursor};
 ghost use Rattle.session_run.specs.Made.{AnsweredBy};
 ghost use Rattle.session_run.specs.Standings.{Keeps, both, watched_all};
 ghost use Rattle.session_run.specs.Taken.{AreRead, AreTaken, IsReady, Registers};

@@ -5,7 +5,7 @@ ghost use Rattle.smarts_parse.specs.Pattern.{pattern_of};
 ghost use Rattle.smarts_parse.specs.Sound.{IsSoundPattern};
 ghost use Rattle.smarts_parse.specs.declared.fault.SmartsFault.TheVariants.{NoMemory};
 ghost use Rattle.store_core.specs.Records.{IsRecord};
-ghost use Rattle.session_run.specs.Texts.{IsPatternFault, IsPatternOf};
+ghost use Rattle.session_acts.specs.Texts.{IsPatternFault, IsPatternOf};
 
 use smarts_parse::{Pattern, SmartsFault, parse};
 use std::alloc::Global;

@@ -16,7 +16,7 @@ use Rattle.store_machine.proofs.Cuts.{called}
 use Rattle.store_machine.proofs.Finds.{AreMolecules, found-hits}
 use Rattle.store_machine.proofs.Growing.{runs-grow}
 use Rattle.store_machine.proofs.PagesRead.{snapshots-stay}
-use Rattle.store_machine.proofs.Paging.{all-found, from-start, pages-are-a-prefix, pages-are-pieces}
+use Rattle.store_machine.proofs.Paging.{all-found, from-start, pages-are-a-prefix, pages-are-pieces, some-page}
 use Rattle.store_machine.proofs.Picks.{found-tried}
 use Rattle.store_machine.proofs.Sound.{runs-stay-sound}
 use Rattle.store_machine.proofs.Told.{longer}
@@ -44,6 +44,9 @@ pages-at are s s' slot version from want place pin back own sound early le run c
     record {
       not_before = omega (arith, early, prefix.0);
       not_after = omega (arith, prefix.0, longer pin.before s' (pin ∷ back) run calm);
+      there = λ more.
+          let some = some-page own pin back slot version want (At from) place c more in
+          (some.0, subst (λ (m : Snapshot). AreFound (IsScreened want) m some.0) stays some.1);
       so_far = λ all f. prefix.1 all (back-then all f)
           ∙ from-start pin.before.history version from want all sound.history le (back-then all f);
       pieces = λ all size f sized. pages-are-pieces own pin back slot version from size want place sound.history le c

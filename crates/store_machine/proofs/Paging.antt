@@ -1,5 +1,5 @@
 -- The pages of one pin, one after the other.
-use Rattle.std.proofs.Common.{ap₂, drop_of_length-le, ◌≡◌, ◌++◌, ◌==◌, ◌≤◌, ◌∙◌, ap, append-nil, append_assoc, Bool, cond, eq-eqb, false, leb-true, length, List, [], ◌∷◌, nat_le, None, refl, Some, subst, sym, take, take-append-drop, drop, true, ℕ, le_of_eq}
+use Rattle.std.proofs.Common.{ap₂, drop_of_length-le, ◌≡◌, ◌≢◌, ◌++◌, ◌==◌, ◌≤◌, ◌∙◌, ap, append-nil, append_assoc, Bool, cond, eq-eqb, false, leb-true, length, List, [], ◌∷◌, nat_le, None, refl, Some, subst, sym, take, take-append-drop, drop, true, ℕ, le_of_eq}
 use Rattle.std.proofs.lemmas.Bool.{cond-true}
 use Rattle.std.specs.List.{AllByRecursion}
 use Rattle.store_machine.specs.Answers.{AreFound, from_on}
@@ -159,14 +159,29 @@ not-ended : (from : ℕ) → End ≡ At from → ⊥
 unfolding has-ended
 not-ended from e = let b : true ≡ false = ap has-ended e in cc
 
--- a search that ended has a page, and so a list of what is found
-some-found : (states : Snapshot) (want : List Bool) (from : ℕ) (fs : List Fetched) → AreRead states fs
-    → IsSearch want (At from) fs End → (all : List Found) × AreFound (IsScreened want) states all
-some-found states want from [] read search = absurd (not-ended from search)
-some-found states want from (f ∷ fs) read search =
+-- a search that ended has a page
+has-page : (want : List Bool) (from : ℕ) (fs : List Fetched) → IsSearch want (At from) fs End → fs ≢ []
+has-page want from [] search = absurd (not-ended from search)
+has-page want from (f ∷ fs) search = λ e. cc
+
+-- a search that has a page has a list of what is found
+some-found : (states : Snapshot) (want : List Bool) (place : Place) (fs : List Fetched) (place' : Place)
+    → AreRead states fs → IsSearch want place fs place' → fs ≢ []
+    → (all : List Found) × AreFound (IsScreened want) states all
+some-found states want place [] place' read search more = absurd (more refl)
+some-found states want place (f ∷ fs) place' read search more =
     let page : IsPage states want f.from f.limit f.records f.last = subst
     (λ w. IsPage states w f.from f.limit f.records f.last) search.1 read.0 in
     (page.all, page.found)
+
+-- the same at its Pin
+pub some-page : (own : ℕ → Bool) (pin : Step) (steps : List Step) (slot version : ℕ) (want : List Bool)
+    (place place' : Place) → Searching own pin steps slot version want place place'
+    → fetched slot (calls_of own steps) ≢ []
+    → (all : List Found) × AreFound (IsScreened want) (snapshot pin.before.history version) all
+some-page own pin steps slot version want place place' c more =
+    some-found (snapshot pin.before.history version) want place (fetched slot (calls_of own steps)) place'
+    (along own pin steps slot version want place place' c).read c.search more
 
 -- the records of a search that ended are all that is found
 pub all-found : (own : ℕ → Bool) (pin : Step) (steps : List Step) (slot version from : ℕ) (want : List Bool)
@@ -176,7 +191,8 @@ all-found own pin steps slot version from want good le c =
     let t = along own pin steps slot version want (At from) End c in
     let states = snapshot pin.before.history version in
     let records = records_of (fetched slot (calls_of own steps)) in
-    let some = some-found states want from (fetched slot (calls_of own steps)) t.read c.search in
+    let some = some-found states want (At from) (fetched slot (calls_of own steps)) End t.read c.search
+    (has-page want from (fetched slot (calls_of own steps)) c.search) in
     let whole : records ≡ some.0 =
     sym (append-nil records) ∙ (paged states want some.0 (At from)
     (fetched slot (calls_of own steps)) End some.1 t.read c.search

@@ -1,5 +1,5 @@
 -- The law of pages as a session cites it: by its own calls in a run, and by the history at the run's end.
-use Rattle.std.specs.Prelude.{◌≡◌, ◌++◌, ◌≤◌, Bool, List, ◌∷◌, ℕ}
+use Rattle.std.specs.Prelude.{◌≡◌, ◌≢◌, [], ◌++◌, ◌≤◌, Bool, List, ◌∷◌, ℕ}
 use Rattle.std.specs.List.{AllByRecursion}
 use Rattle.smarts_parse.specs.Pattern.{PatternTerm}
 use Rattle.store_machine.specs.Answers.{AreFound, AreHits, AreMatched, AreTried, ids}
@@ -24,11 +24,14 @@ pub record Calls (slot version : ℕ) (want : List Bool) (from : ℕ) (place : P
   pub keeps : KeepsPin slot pages
   pub search : IsSearch want (At from) (fetched slot pages) place
 
--- the pages so far are the beginning, piece by piece, of what is found at the version, and at the end all of it
+-- the pages so far are the beginning, piece by piece, of what is found at the version, and at the end all of it; once
+-- there is a page, there is a list of what is found
 pub record Pages (s s' : State) (slot version : ℕ) (want : List Bool) (place : Place)
     (pages : List (Event × Reply)) : Type 0 where
   pub not_before : head s.history ≤ version
   pub not_after : version ≤ head s'.history
+  pub there : fetched slot pages ≢ []
+      → (all : List Found) × AreFound (IsScreened want) (snapshot s'.history version) all
   pub so_far : (all : List Found) → AreFound (IsScreened want) (snapshot s'.history version) all
       → records_of (fetched slot pages) ++ ahead place all ≡ all
   pub pieces : (all : List Found) (size : ℕ) → AreFound (IsScreened want) (snapshot s'.history version) all

@@ -1,7 +1,7 @@
 use Rattle.std.proofs.Common.{subst, sym}
+use Rattle.session_acts.specs.Served.{IsServedBy}
+use Rattle.session_acts.specs.Truths.{IsInRun}
 use Rattle.session_run.specs.Servable.{IsServable}
-use Rattle.session_run.specs.Served.{IsServedBy}
-use Rattle.session_run.specs.Truths.{IsInRun}
 use Rattle.session_run.specs.declared.settings.Settings.{Settings}
 use Rattle.store_machine.specs.declared.machine.State.{State}
 use Rattle.chem_shell.proofs.Ended.{causes_of_end}

@@ -3,7 +3,7 @@ use Rattle.shell_lang.specs.Reply as line
 use Rattle.store_core.specs.Replies.{change_of}
 use Rattle.store_machine.specs.declared.machine.Change.{Change}
 use Rattle.watch_list.specs.Watches.{Watch}
-use Rattle.session_run.specs.Acts.{Fault}
+use Rattle.session_acts.specs.Acts.{Fault}
 use Rattle.session_run.specs.Standings.{IsNotedBy, watched_all}
 use Rattle.session_run.proofs.Joined.{uses-none}
 use Rattle.session_run.proofs.Lines.{said}

@@ -1,7 +1,7 @@
 use Rattle.std.proofs.Common.{subst, sym, ℕ}
 use Rattle.store_core.specs.Replies.{change_of}
+use Rattle.session_acts.specs.Watching.{AreNoted}
 use Rattle.session_run.specs.Standings.{watched_all}
-use Rattle.session_run.specs.Watching.{AreNoted}
 use Rattle.session_run.proofs.Noting.{are_noted, none_noted}
 use Rattle.session_run.proofs.commands.note_version.Goals as goal
 

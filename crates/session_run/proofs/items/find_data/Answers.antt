@@ -4,8 +4,8 @@ use Rattle.shell_lang.specs.Reply as line
 use Rattle.shell_lang.specs.declared.reply.Refusal.TheVariants as refusals
 use Rattle.store_machine.specs.declared.machine.Reply.TheVariants as replies
 use Rattle.store_machine.specs.declared.machine.Status.TheVariants as status
-use Rattle.session_run.specs.Acts.{item_line}
-use Rattle.session_run.specs.Records.{data_of}
+use Rattle.session_acts.specs.Acts.{item_line}
+use Rattle.session_acts.specs.Records.{data_of}
 use Rattle.session_run.proofs.Itemed.{found, item_told, unfound}
 use Rattle.session_run.proofs.items.find_data.Goals as goal
 

@@ -1,6 +1,6 @@
 use Rattle.std.proofs.Common.{◌≡◌, ◌++◌, map, take}
 use Rattle.shell_lang.specs.Reply.{text_of}
-use Rattle.session_run.specs.Acts.{like_line}
+use Rattle.session_acts.specs.Acts.{like_line}
 use Rattle.session_run.proofs.lookups.push_likes.Given as goal
 
 abbrev pub invariant-loop-like : goal.invariant-loop-like

@@ -7,7 +7,7 @@ use Rattle.shell_lang.specs.declared.reply.Refusal.TheVariants as refusals
 use Rattle.store_machine.specs.declared.machine.Change.{Change}
 use Rattle.store_machine.specs.declared.machine.Change.TheVariants as changes
 use Rattle.store_machine.specs.declared.machine.Event.TheVariants as events
-use Rattle.session_run.specs.Acts.{Fault, MayAsk, MayRegisterNew, NotNew, RegisterNew, RegisteredNew}
+use Rattle.session_acts.specs.Acts.{Fault, MayAsk, MayRegisterNew, NotNew, RegisterNew, RegisteredNew}
 use Rattle.session_run.proofs.Joined.{uses-more, uses-none}
 use Rattle.session_run.proofs.Lines.{said}
 use Rattle.session_run.proofs.Looked.{first_none, first_some, looked_in_vain, looked_whole, new_lost, new_pinless, printed_of, registered_from, text_unread}

@@ -2,7 +2,7 @@ use Rattle.std.proofs.Common.{[], refl}
 use Rattle.std.specs.Arc.{arc_value}
 use Rattle.mol_finish.specs.declared.fault.Format.TheVariants.{Smiles}
 use Rattle.shell_lang.specs.Reply.{reply_of}
-use Rattle.session_run.specs.Acts.{Fault, MaySame}
+use Rattle.session_acts.specs.Acts.{Fault, MaySame}
 use Rattle.session_run.proofs.Joined.{uses-none}
 use Rattle.session_run.proofs.Lines.{noted, said}
 use Rattle.session_run.proofs.Looked.{looked_in_vain, looked_whole, no_pin, printed_of, same_listed, same_lost, text_unread}

@@ -1,5 +1,5 @@
 use Rattle.std.proofs.Common.{◌∙◌, ap, sym}
-use Rattle.session_run.specs.Records.{counted}
+use Rattle.session_acts.specs.Records.{counted}
 use Rattle.session_run.proofs.records.part_bytes.Goals as goal
 
 pub returns-in-Some : goal.returns-in-Some

@@ -2,7 +2,7 @@ use Rattle.std.proofs.Common.{◌≡◌, ◌∙◌, ◌++◌, ◌∷◌, [], ap,
 use Rattle.std.proofs.lemmas.Result.{err_from_is_err_and}
 use Rattle.io_edge.specs.Lines.{TextLine, TooLong, Whole, lines_left}
 use Rattle.shell_lang.specs.Command.{IsLine, StartsMolfile, TakesLines, TakesRecords, molfile_command, records_command}
-use Rattle.session_run.specs.Requests.{BeginWith, BeginWithMolfile, BeginWithRecords, IsAlone}
+use Rattle.session_acts.specs.Requests.{BeginWith, BeginWithMolfile, BeginWithRecords, IsAlone}
 use Rattle.session_run.proofs.Continued.{lines_more, none_left}
 use Rattle.session_run.proofs.Taking.{is_long_line, reads_more}
 use Rattle.session_run.proofs.request.next_request.Goals as goal

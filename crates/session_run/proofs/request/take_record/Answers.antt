@@ -2,7 +2,7 @@ use Rattle.std.proofs.Common.{◌≡◌, ◌∙◌, ap, Bool, codes, false, refl
 use Rattle.std.proofs.lemmas.Result.{err_from_is_err_and}
 use Rattle.std.specs.Str.{bytes_eq}
 use Rattle.io_edge.specs.Lines.{TooLong, Whole}
-use Rattle.session_run.specs.Requests.{ends_record}
+use Rattle.session_acts.specs.Requests.{ends_record}
 use Rattle.session_run.specs.Taken.{record_of}
 use Rattle.session_run.proofs.Ordered.{IsAny, one_ended, one_line, one_none, one_open, one_part}
 use Rattle.session_run.proofs.Taking.{reads_more, reads_none}

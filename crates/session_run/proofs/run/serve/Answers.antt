@@ -1,6 +1,9 @@
 use Rattle.std.proofs.Common.{◌≡◌, ◌∙◌, [], ap, ap₂, arith, List, None, refl, Some, subst, sym}
 use Rattle.watch_list.specs.Watches.{Watch}
-use Rattle.session_run.specs.Cursors.{Cursor}
+use Rattle.session_acts.specs.Cursors.{Cursor}
+use Rattle.session_acts.specs.declared.end.EndStatus.{EndStatus}
+use Rattle.session_acts.specs.declared.end.EndStatus.TheVariants.{Worn}
+use Rattle.session_acts.proofs.Held.{same_held, same_others}
 use Rattle.session_run.specs.Made.{Uses}
 use Rattle.session_run.specs.Opened.{opened}
 use Rattle.session_run.specs.Responds.{KeepsPins}
@@ -8,10 +11,7 @@ use Rattle.session_run.specs.Turn.{TakesNone, TakesRequest, Turns}
 use Rattle.session_run.specs.Standings.{both, standing_of, watched_all}
 use Rattle.session_run.specs.Walks.{cursors_of}
 use Rattle.session_run.specs.declared.cursors.Cursor as rust
-use Rattle.session_run.specs.declared.settings.EndStatus.{EndStatus}
-use Rattle.session_run.specs.declared.settings.EndStatus.TheVariants.{Worn}
 use Rattle.session_run.specs.declared.settings.Settings.{Settings}
-use Rattle.session_run.proofs.Held.{same_held, same_others}
 use Rattle.session_run.proofs.Joined.{uses-more, uses-none}
 use Rattle.session_run.proofs.Scripts.{Rose-since, serves-turn, takes_all, takes_whole, takes_within, under_way-start, under_way-turn}
 use Rattle.session_run.proofs.Turning.{keeps_more, turn_keeps}

@@ -1,6 +1,6 @@
 use Rattle.std.proofs.Common.{◌≡◌, ◌-◌, ◌≤◌, []}
 use Rattle.io_edge.specs.Lines.{done_bytes}
-use Rattle.session_run.specs.Cursors.{Calls}
+use Rattle.session_acts.specs.Cursors.{Calls}
 use Rattle.session_run.specs.Made.{Uses}
 use Rattle.session_run.specs.Opened.{opened}
 use Rattle.session_run.specs.Responds.{IsFit, KeepsPins}

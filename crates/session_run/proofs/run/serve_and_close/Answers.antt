@@ -1,12 +1,12 @@
 use Rattle.std.proofs.Common.{◌++◌, []}
-use Rattle.session_run.specs.Cursors.{unpins}
+use Rattle.session_acts.specs.Cursors.{unpins}
+use Rattle.session_acts.specs.Pins.{HeldAfter}
+use Rattle.session_acts.proofs.Held.{same_others, same_others-more}
 use Rattle.session_run.specs.Made.{Uses}
 use Rattle.session_run.specs.Opened.{opened}
-use Rattle.session_run.specs.Pins.{HeldAfter}
 use Rattle.session_run.specs.Standings.{standing_of}
 use Rattle.session_run.specs.Walks.{cursors_of}
 use Rattle.session_run.proofs.Closing.{ends-worn, served-closed, served-closing, served-worn}
-use Rattle.session_run.proofs.Held.{same_others, same_others-more}
 use Rattle.session_run.proofs.Joined.{uses-more}
 use Rattle.session_run.proofs.Opening.{returned_part, unpins_others}
 use Rattle.session_run.proofs.Turning.{held-all}

@@ -1,7 +1,7 @@
 use Rattle.std.proofs.Common.{ap, Err, Ok, refl}
 use Rattle.std.proofs.KnownBytes.{Appends-nil}
+use Rattle.session_acts.specs.Requests.{IsPartOfRequest}
 use Rattle.session_run.specs.Made.{Uses}
-use Rattle.session_run.specs.Requests.{IsPartOfRequest}
 use Rattle.session_run.specs.Standings.{standing_of}
 use Rattle.session_run.specs.Turn.{TakesNone, TakesPart, TakesRequest}
 use Rattle.session_run.proofs.Joined.{uses-none}

@@ -3,8 +3,8 @@ use Rattle.std.specs.Arc.{arc_value}
 use Rattle.shell_lang.specs.Reply as line
 use Rattle.shell_lang.specs.Reply.{reply_of}
 use Rattle.store_core.specs.Records.{IsRecord}
+use Rattle.session_acts.specs.Watching.{Standing}
 use Rattle.session_run.specs.Standings.{watched_all}
-use Rattle.session_run.specs.Watching.{Standing}
 use Rattle.session_run.proofs.Joined.{uses-none}
 use Rattle.session_run.proofs.Lines.{answered_as, said}
 use Rattle.session_run.proofs.Registered.{registers_committed, registers_fault, registers_refused}

@@ -3,7 +3,7 @@ use Rattle.lookup.specs.Fetches.{IsAnew}
 use Rattle.lookup.proofs.Looked.{looked-fault, looked-some}
 use Rattle.shell_lang.specs.Reply as line
 use Rattle.shell_lang.specs.declared.reply.Refusal.TheVariants as refusals
-use Rattle.session_run.specs.Acts.{Fault, Refused}
+use Rattle.session_acts.specs.Acts.{Fault, Refused}
 use Rattle.session_run.proofs.Joined.{uses-none}
 use Rattle.session_run.proofs.Lines.{said}
 use Rattle.session_run.proofs.Looked.{looked_so, looked_whole, new_pinless}

@@ -5,7 +5,7 @@ use Rattle.shell_lang.specs.Reply.{reply_of}
 use Rattle.shell_lang.specs.declared.reply.Refusal.TheVariants as refusals
 use Rattle.smarts_parse.specs.Pattern.{pattern_of}
 use Rattle.watch_list.specs.declared.list.TheConstants.{MOST_WATCHES}
-use Rattle.session_run.specs.Acts.{Fault, MayWatch, Refused}
+use Rattle.session_acts.specs.Acts.{Fault, MayWatch, Refused}
 use Rattle.session_run.specs.Standings.{watched, watched_all}
 use Rattle.session_run.proofs.Joined.{uses-none}
 use Rattle.session_run.proofs.Lines.{pattern_refused, said}

@@ -1,5 +1,5 @@
 use Rattle.std.proofs.Common.{◌≡◌, List, add-one, arith, subst, sym, suc, ℕ}
-use Rattle.session_run.specs.Pins.{AreHeld}
+use Rattle.session_acts.specs.Pins.{AreHeld}
 use Rattle.session_run.specs.declared.respond.Responder.{Responder}
 use Rattle.store_core.specs.Stored.{HoldsPin}
 use Rattle.drill_run.specs.Dialogue.{AllKept}

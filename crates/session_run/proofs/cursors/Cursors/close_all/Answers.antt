@@ -1,5 +1,5 @@
 use Rattle.std.proofs.Common.{[], ◌++◌, ap, arith, length, List, refl}
-use Rattle.session_run.specs.Cursors.{unpins}
+use Rattle.session_acts.specs.Cursors.{unpins}
 use Rattle.session_run.specs.Made.{Uses}
 use Rattle.session_run.specs.Opened.{opened}
 use Rattle.session_run.specs.Walks.{cursors_of}

@@ -1,8 +1,8 @@
 use Rattle.std.proofs.Common.{◌≡◌, ◌++◌, length}
-use Rattle.session_run.specs.Cursors.{Calls, unpins}
+use Rattle.session_acts.specs.Cursors.{Calls, unpins}
+use Rattle.session_acts.specs.Pins.{AreHeld}
 use Rattle.session_run.specs.Made.{Uses}
 use Rattle.session_run.specs.Opened.{opened}
-use Rattle.session_run.specs.Pins.{AreHeld}
 use Rattle.session_run.specs.Walks.{cursors_of}
 use Rattle.session_run.proofs.cursors.Cursors.close_all.Given as goal
 

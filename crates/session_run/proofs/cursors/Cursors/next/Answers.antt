@@ -1,7 +1,7 @@
 use Rattle.std.proofs.Common.{◌≡◌, ◌∙◌, [], ap, List, map, refl, sym}
 use Rattle.shell_lang.specs.Reply as line
 use Rattle.shell_lang.specs.declared.reply.Refusal.TheVariants as refusals
-use Rattle.session_run.specs.Acts.{Refused}
+use Rattle.session_acts.specs.Acts.{Refused}
 use Rattle.session_run.specs.Opened.{named, opened}
 use Rattle.session_run.proofs.ByName.{Entry, absent, found}
 use Rattle.session_run.proofs.Joined.{uses-none}

@@ -3,8 +3,8 @@ use Rattle.shell_lang.specs.Reply as line
 use Rattle.shell_lang.specs.Reply.{reply_of}
 use Rattle.shell_lang.specs.declared.reply.Refusal.TheVariants as refusals
 use Rattle.smarts_parse.specs.Pattern.{pattern_of}
-use Rattle.session_run.specs.Acts.{Fault, MayOpen, Refused}
-use Rattle.session_run.specs.Cursors.{IsNoName}
+use Rattle.session_acts.specs.Acts.{Fault, MayOpen, Refused}
+use Rattle.session_acts.specs.Cursors.{IsNoName}
 use Rattle.session_run.specs.Opened.{named, opened}
 use Rattle.session_run.specs.Servable.{IsServable}
 use Rattle.session_run.specs.Walks.{AreSized, cursors_of}

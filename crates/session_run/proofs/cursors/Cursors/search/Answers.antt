@@ -2,8 +2,8 @@ use Rattle.std.proofs.Common.{[], inr, refl, subst, sym}
 use Rattle.shell_lang.specs.Reply.{reply_of}
 use Rattle.smarts_parse.specs.Pattern.{pattern_of}
 use Rattle.smarts_parse.specs.declared.pattern.Pattern.{Pattern}
-use Rattle.session_run.specs.Acts.{MaySearch}
-use Rattle.session_run.specs.Texts.{IsPatternOf}
+use Rattle.session_acts.specs.Acts.{MaySearch}
+use Rattle.session_acts.specs.Texts.{IsPatternOf}
 use Rattle.session_run.proofs.Ending.{searched_from}
 use Rattle.session_run.proofs.Joined.{uses-more, uses-none}
 use Rattle.session_run.proofs.Lines.{pattern_refused, said, unbegun}

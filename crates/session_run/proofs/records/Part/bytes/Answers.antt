@@ -1,5 +1,5 @@
 use Rattle.std.proofs.Common.{◌≡◌, length, Some, sym}
-use Rattle.session_run.specs.Records.{counted}
+use Rattle.session_acts.specs.Records.{counted}
 use Rattle.session_run.specs.declared.records.Part.TheVariants as parts
 use Rattle.session_run.proofs.Recorded.{part_counts}
 use Rattle.session_run.proofs.records.Part.bytes.Goals as goal

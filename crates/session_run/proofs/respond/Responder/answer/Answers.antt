@@ -1,7 +1,7 @@
 use Rattle.std.proofs.Common.{[], inl, refl}
 use Rattle.shell_lang.specs.Reply as line
 use Rattle.shell_lang.specs.declared.reply.Refusal.TheVariants as refusals
-use Rattle.session_run.specs.Acts.{Refused}
+use Rattle.session_acts.specs.Acts.{Refused}
 use Rattle.session_run.proofs.Joined.{uses-none}
 use Rattle.session_run.proofs.Lines.{said}
 use Rattle.session_run.proofs.Requested.{behind_nothing}

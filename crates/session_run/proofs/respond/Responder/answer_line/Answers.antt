@@ -3,8 +3,8 @@ use Rattle.io_edge.specs.Lines.{Whole}
 use Rattle.shell_lang.specs.CommandView.{command_of}
 use Rattle.shell_lang.specs.Reply as line
 use Rattle.shell_lang.specs.declared.reply.Refusal.TheVariants as refusals
-use Rattle.session_run.specs.Acts.{Refused, Say}
-use Rattle.session_run.specs.Requests.{Request}
+use Rattle.session_acts.specs.Acts.{Refused, Say}
+use Rattle.session_acts.specs.Requests.{Request}
 use Rattle.session_run.specs.Standings.{standing_of}
 use Rattle.session_run.proofs.Joined.{uses-none}
 use Rattle.session_run.proofs.Lines.{said}

@@ -4,7 +4,7 @@ use Rattle.molfile_read.specs.declared.fault.MolfileFault.TheVariants.{Limit}
 use Rattle.shell_lang.specs.Reply as line
 use Rattle.shell_lang.specs.Reply.{reply_of}
 use Rattle.shell_lang.specs.declared.reply.Refusal.TheVariants as refusals
-use Rattle.session_run.specs.Acts.{Refused}
+use Rattle.session_acts.specs.Acts.{Refused}
 use Rattle.session_run.specs.Opened.{opened}
 use Rattle.session_run.specs.Standings.{standing_of}
 use Rattle.session_run.specs.Walks.{cursors_of}

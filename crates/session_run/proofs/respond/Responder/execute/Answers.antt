@@ -1,6 +1,6 @@
 use Rattle.std.proofs.Common.{[], append-nil, refl, sym}
 use Rattle.store_machine.specs.declared.machine.Event.TheVariants as events
-use Rattle.session_run.specs.Acts.{Silence}
+use Rattle.session_acts.specs.Acts.{Silence}
 use Rattle.session_run.specs.Made.{Said}
 use Rattle.session_run.proofs.Joined.{uses-none}
 use Rattle.session_run.proofs.Requested.{spells_register_mol, spells_register_sd, spells_revise_mol}

@@ -1,9 +1,9 @@
 use Rattle.std.proofs.Common.{[]}
 use Rattle.shell_lang.specs.Reply as line
 use Rattle.shell_lang.specs.declared.reply.Refusal.TheVariants as refusals
-use Rattle.session_run.specs.Acts.{Refused}
+use Rattle.session_acts.specs.Acts.{Refused}
+use Rattle.session_acts.specs.Records.{records_in}
 use Rattle.session_run.specs.Opened.{opened}
-use Rattle.session_run.specs.Records.{records_in}
 use Rattle.session_run.specs.Standings.{standing_of}
 use Rattle.session_run.specs.Walks.{cursors_of}
 use Rattle.session_run.proofs.Joined.{uses-none}

@@ -1,0 +1,12 @@
+pub mod Requests
+pub mod Records
+pub mod Texts
+pub mod Cursors
+pub mod Watching
+pub mod Lookups
+pub mod Acts
+pub mod Pins
+pub mod Dialogue
+pub mod Transcript
+pub mod Served
+pub mod Truths
