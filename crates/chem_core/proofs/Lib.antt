@@ -11,3 +11,4 @@ pub mod Steps
 pub mod StepsFilled
 pub mod StepsSorted
 pub mod Codes
+pub mod Sorts

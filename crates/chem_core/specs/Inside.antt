@@ -3,6 +3,7 @@ use Rattle.std.specs.Prelude.{◌≡◌, ℕ, ◌+◌, ◌*◌, ◌<◌, ◌≤�
 use Rattle.std.specs.Int.{bit_at}
 use Rattle.std.specs.List.Sorted.{IsNonDecreasing}
 use Rattle.chem_core.specs.declared.adjacency.Step.{Step}
+use Rattle.chem_core.specs.declared.sort_counts.SortCounts.{SortCounts}
 use Rattle.chem_core.specs.declared.mol.Atom.{Atom}
 use Rattle.chem_core.specs.declared.mol.AtomFacts.{AtomFacts}
 use Rattle.chem_core.specs.declared.mol.Bond.{Bond}
@@ -12,6 +13,7 @@ use Rattle.chem_core.specs.Graph.{Ends, AreNeighbourLists, IsRingBond, degree}
 use Rattle.chem_core.specs.Molecule.{IsMolecule, bond_ends}
 use Rattle.chem_core.specs.RingFacts.{AreSmallestRings}
 use Rattle.chem_core.specs.Component.{AreComponents}
+use Rattle.chem_core.specs.Sorts.{AreCounts}
 use Rattle.chem_core.specs.Symbols.{HasClass}
 use Rattle.chem_core.specs.Words.{bits_of}
 
@@ -54,9 +56,10 @@ pub record AreSymbols (atoms : List Atom) (symbols : Symbols) : Type 0 where
   pub codes : (i : ℕ) → i < 64 → slice_index symbols.codes i ≡ code_in (slice_get atoms i)
   pub classes : (c : ℕ) → c < 64 → bit_at symbols.classes c ≡ 1 ↔ HasClass atoms c
 
-pub record IsSoundInside (atoms : List Atom) (bonds : List Bond) (symbols : Symbols) (facts : List AtomFacts)
-    (neighbours : List (ℕ × ℕ)) (ring_bonds : List ℕ) : Type 0 where
+pub record IsSoundInside (atoms : List Atom) (bonds : List Bond) (counts : SortCounts) (symbols : Symbols)
+    (facts : List AtomFacts) (neighbours : List (ℕ × ℕ)) (ring_bonds : List ℕ) : Type 0 where
   pub molecule : IsMolecule (record { atoms = atoms; bonds = bonds })
+  pub counted : AreCounts atoms bonds counts
   pub coded : AreSymbols atoms symbols
   pub lists : AreNeighboursInTurn (bond_ends bonds) (length atoms) neighbours (map (λ f. f.first_neighbour) facts)
   pub rings : (b : ℕ) → b < length bonds → HasBit (bits_of ring_bonds) b ↔ IsRingBond (bond_ends bonds) b

@@ -12,3 +12,4 @@ pub mod RingFacts
 pub mod Component
 pub mod Steps
 pub mod Symbols
+pub mod Sorts

@@ -9,6 +9,7 @@ mod limits;
 mod mol;
 mod print;
 mod sketch;
+mod sort_counts;
 mod symbols;
 
 pub use adjacency::{Adjacency, Step};
@@ -17,4 +18,5 @@ pub use limits::{MOST_ATOMS, MOST_BONDS, MOST_NEIGHBOURS, are_few_neighbours};
 pub use mol::{Atom, Bond, BondKind, Mol, one_neighbour_list, same_component};
 pub use print::Print;
 pub use sketch::{Fill, Sketch, SketchAtom, SketchBond, SketchKind};
+pub use sort_counts::{BondSort, SORT_ROOM, SortCounts, atom_sorts, bond_sorts, raise};
 pub use symbols::class;

@@ -6,12 +6,14 @@ ghost use Rattle.chem_core.specs.Molecule.{IsMolecule, bond_ends, ends_of};
 ghost use Rattle.chem_core.specs.Inside.{AreNeighboursInTurn, AreSortedBehind};
 ghost use Rattle.chem_core.specs.RingFacts.{AreRingBonds, AreSmallestRings};
 ghost use Rattle.chem_core.specs.Component.{Reaches, IsComponent, AreComponents};
+ghost use Rattle.chem_core.specs.Sorts.{AreCounts};
 ghost use Rattle.chem_core.specs.Symbols.{HasClass, HasSymbolAt};
 ghost use Rattle.chem_core.specs.Words.{bits_of};
 
 use crate::adjacency::{Adjacency, Step};
 use crate::bits::{has_bit, set_bit};
 use crate::limits::MOST_BONDS;
+use crate::sort_counts::SortCounts;
 use crate::symbols::Symbols;
 use bumpalo::Bump;
 use smallvec::SmallVec;
@@ -76,6 +78,7 @@ struct AtomFacts {
 #[derive(Debug, Drop)]
 pub struct Mol {
     // first, since a search reads no more of most molecules
+    counts: SortCounts,
     symbols: Symbols,
     atoms: Vec<Atom>,
     bonds: Vec<Bond>,
@@ -96,8 +99,8 @@ impl Model for Mol {
 
     ghost use Rattle.chem_core.specs.Inside.{IsSoundInside};
 
-    ghost invariant = { λ m. IsSoundInside m.atoms.items m.bonds.items m.symbols m.facts.items m.neighbours.items
-        m.ring_bonds.items };
+    ghost invariant = { λ m. IsSoundInside m.atoms.items m.bonds.items m.counts m.symbols m.facts.items
+        m.neighbours.items m.ring_bonds.items };
 }
 
 impl Mol {
@@ -152,6 +155,7 @@ impl Mol {
         let (facts, neighbours) = in_turn(alloc, adjacency, &atom_small, &component)?;
         let ring_bonds = bond_set(alloc, &bond_in_ring)?;
         Ok(Mol {
+            counts: SortCounts::count(&atoms, &bonds),
             symbols: Symbols::of(&atoms),
             atoms,
             bonds,
@@ -192,6 +196,14 @@ impl Mol {
         ensures { (c : ℕ) → c < 64 → bit_at result c ≡ 1 ↔ HasClass self.now.atoms c }
     {
         self.symbols.classes()
+    }
+
+    /// How many atoms and bonds it has of each sort.
+    #[inline(always)]
+    pub fn counts(&self) -> &SortCounts
+        ensures { AreCounts self.now.atoms self.now.bonds result.now }
+    {
+        &self.counts
     }
 
     /// The neighbours of the atom at a place, each with the place of the bond to it, in ascending order.

@@ -26,3 +26,4 @@ pub mod Groups
 pub mod Removals
 pub mod Seconds
 pub mod Pairs
+pub mod Counted

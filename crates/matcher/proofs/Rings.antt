@@ -169,7 +169,7 @@ high_place graph place high b searchable l is most =
     omega (arith, few, length-map graph.atoms.items term_of)
 
 -- a bond has two ends
-same_ends : (ends : Ends) (j p q x y : ℕ) → JoinsAt ends j p q → JoinsAt ends j x y
+pub same_ends : (ends : Ends) (j p q x y : ℕ) → JoinsAt ends j p q → JoinsAt ends j x y
     → ((x ≡ p) × (y ≡ q)) ⊎ ((x ≡ q) × (y ≡ p))
 same_ends ends j p q x y (inl a) (inl b) =
     let is : (p, q) ≡ (x, y) = same_Some (p, q) (x, y) (sym a ∙ b) in

@@ -12,3 +12,4 @@ pub mod Ring
 pub mod Task
 pub mod Group
 pub mod Wanted
+pub mod Counted

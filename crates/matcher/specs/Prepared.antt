@@ -5,6 +5,7 @@ use Rattle.smarts_parse.specs.Pattern.{GraphTerm, PatternTerm, Prim}
 use Rattle.matcher.specs.declared.planned.Plans.{Plans}
 use Rattle.matcher.specs.declared.prepare.Prepared.{Prepared}
 use Rattle.matcher.specs.declared.scratch.Scratch.{Scratch}
+use Rattle.matcher.specs.Counted.{AreAsked}
 use Rattle.matcher.specs.Plan.{ArePartsPlanned, StandsAt}
 use Rattle.matcher.specs.Ring.{AreRingMarks}
 use Rattle.matcher.specs.Wanted.{AreWanted}
@@ -25,6 +26,7 @@ ArePartMarks p marks part = (g : GraphTerm) → slice_get p.recs part ≡ Some g
 
 -- what was worked out is of the pattern
 pub record IsPrepared (p : PatternTerm) (prepared : Prepared) : Type 0 where
+  pub asked : AreAsked p prepared.asked
   pub planned : IsPlanned p prepared.plans
   pub wanted : AreWanted p prepared.wanted.classes.items
   pub only : IfSome prepared.part (IsOnlyPart p)

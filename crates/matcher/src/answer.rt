@@ -89,6 +89,9 @@ fn matches(pattern: &Pattern, prepared: &Prepared, mol: &Mol, memory: &mut Memor
     requires prepared { IsPrepared (pattern_of pattern.now) prepared.now }
     ensures { IsTrue result ↔ Matches (pattern_of pattern.now) mol.now }
 {
+    if mol.counts().lacks(&prepared.asked) {
+        return false;
+    }
     if lacks_atom(pattern, prepared.plans.top(pattern), mol) {
         return false;
     }

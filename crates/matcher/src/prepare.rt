@@ -5,16 +5,20 @@ ghost use Rattle.std.specs.Prelude.{IfSome};
 ghost use Rattle.smarts_parse.specs.Pattern.{pattern_of};
 ghost use Rattle.matcher.specs.Prepared.{IsOnlyPart};
 
+use crate::first_line::asked;
 use crate::lay::Order;
 use crate::planned::Plans;
 use crate::ring::Closing;
 use crate::wanted::Wanted;
+use chem_core::{SORT_ROOM, SortCounts};
 use smarts_parse::{AtomPrim, Expr, Pattern};
 use std::alloc::{AllocError, Global};
 
 /// What is worked out of a pattern alone.
 #[derive(Debug, Drop)]
 pub struct Prepared {
+    /// The counts that no molecule lacks in which the pattern embeds.
+    pub asked: SortCounts,
     pub plans: Plans,
     pub wanted: Wanted,
     pub order: Order,
@@ -30,6 +34,10 @@ impl Prepared {
     /// Takes the memory.
     pub fn reserve(alloc: Global) -> Result<Prepared, AllocError> {
         Ok(Prepared {
+            asked: SortCounts {
+                atoms: [0; SORT_ROOM],
+                bonds: [0; SORT_ROOM],
+            },
             plans: Plans::reserve(alloc)?,
             wanted: Wanted::reserve(alloc)?,
             order: Order::reserve(alloc)?,
@@ -44,6 +52,8 @@ impl Prepared {
         ensures { IsPrepared (pattern_of pattern.now) self.new }
     {
         self.plans.plan(pattern);
+        let counts = asked(pattern, &self.plans);
+        self.asked = counts;
         self.wanted.find(pattern);
         let part = only_part(pattern);
         self.part = part;

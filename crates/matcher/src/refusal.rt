@@ -112,8 +112,8 @@ pub fn is_crowded(task: &Task) -> bool
     true
 }
 
-// How many of the steps have no classes but these.
-fn places_within(steps: &[EarlierBonds], classes: u64) -> usize
+/// How many of the steps have no classes but these.
+pub fn places_within(steps: &[EarlierBonds], classes: u64) -> usize
     ensures { result ≡ count_by (is_within classes) steps.now }
 {
     let mut count = 0;

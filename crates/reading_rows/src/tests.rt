@@ -14,6 +14,7 @@ mod prints;
 mod rings;
 mod same;
 mod similar;
+mod sorts;
 mod structures;
 mod texts;
 

@@ -9,6 +9,13 @@ use Rattle.matcher.proofs.OnlyParts.{only_part_holds, part_read}
 use Rattle.matcher.proofs.PartsHeld.{none_of, some_of}
 use Rattle.matcher.proofs.answer.matches.Goals as goal
 
+pub returns-then-lacks : goal.returns-then-lacks
+returns-then-lacks c = (
+  λ t. absurd (false≢true t),
+  λ w. absurd (c.requires.prepared.asked c.args.mol.now c.counts.result.now c.counts.ensures w
+      (c.lacks.ensures c.if-lacks.true)),
+)
+
 pub note_parts-requires-clause-count : goal.note_parts-requires-clause-count
 note_parts-requires-clause-count c =
     let only : IsOnlyPart (pattern_of c.args.pattern.now) c.in-Some.part = rw c.in-Some.is at

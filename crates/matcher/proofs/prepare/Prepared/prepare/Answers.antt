@@ -14,6 +14,7 @@ returns-in-Some c =
     let p = pattern_of c.args.pattern.now in
     let marks = c.find-in-Some.new.self.on_ring.items in
     record {
+      asked = c.asked-counts.ensures;
       planned = c.plan.ensures;
       wanted = c.find.ensures;
       only = c.only_part-part.ensures;
