@@ -22,7 +22,7 @@ without_bonds x = record {
   to_hetero = 0;
 }
 
--- one more where the test holds
+-- one more if the test holds
 abbrev pub more : ℕ → Bool → ℕ
 more n test = n + (if test then 1 else 0)
 
@@ -48,7 +48,7 @@ pub record HasFewBonds (x : Environment) : Type 0 where
   pub to_oxygen : x.to_oxygen < 1000
   pub to_hetero : x.to_hetero < 1000
 
--- what the table reads of each atom and of these bonds, by the atom's place
+-- the facts that the table reads of each atom and of these bonds, by the atom's place
 pub record AreEnvironments (atoms : List SketchAtom) (pairs : List (SketchBond × Bool))
     (environments : List Environment) : Type 0 where
   pub count : length environments ≡ length atoms

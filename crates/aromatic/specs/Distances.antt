@@ -1,13 +1,12 @@
--- How far atoms are from the target of a search, and the queue of the atoms that are reached.
--- For private clauses alone.
+-- The distances of atoms from the target of a search, and the queue of the atoms that are reached. For private clauses
+-- alone.
 use Rattle.std.specs.Prelude.{◌≡◌, ◌≢◌, ◌==◌, ℕ, ◌+◌, ◌<◌, ◌≤◌, List, length, slice_index, count_by, Contains}
 use Rattle.aromatic.specs.declared.limits.TheConstants.{LONGEST}
 use Rattle.aromatic.specs.declared.links.Link.{Link}
 use Rattle.aromatic.specs.Links.{IsLinked}
 
--- A number for each atom: 0 for the target, and along a link it falls by at most one. So from each atom as many links
--- at
--- least lead to the target.
+-- A number for each atom: 0 for the target, and along a link it falls by at most one. So at least that many links lead
+-- from each atom to the target.
 pub record AreDistances (links : List (List Link)) (target : ℕ) (distances : List ℕ) : Type 0 where
   pub count : length distances ≡ length links
   pub here : slice_index distances target ≡ 0
@@ -21,8 +20,8 @@ IsQueue distances queue = (a : ℕ) → a < length distances → slice_index dis
 abbrev pub distance_at : List ℕ → List ℕ → ℕ → ℕ
 distance_at distances queue i = slice_index distances (slice_index queue i)
 
--- The distances are spread from the target as far as the atoms of the queue below the head: the atoms that these are
--- linked to are at most one farther. The queue rises by distances, which differ by at most one from the head on.
+-- The distances are spread from the target as far as the atoms of the queue below the head. The atoms linked to these
+-- are at most one farther. The queue rises by distances, which differ by at most one from the head on.
 pub record IsSpread (links : List (List Link)) (target : ℕ) (distances queue : List ℕ) (head : ℕ) : Type 0 where
   pub count : length distances ≡ length links
   pub here : slice_index distances target ≡ 0

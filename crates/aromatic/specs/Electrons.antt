@@ -1,4 +1,4 @@
--- How many electrons an atom gives to an aromatic ring. The table is this project's own profile. For callers.
+-- The electrons that an atom gives to an aromatic ring. The table is this project's own profile. For callers.
 use Rattle.std.specs.Prelude.{ℕ, ℤ, ◌+◌, ◌==◌, ◌&&◌, ◌||◌, not, nat_le, Bool, true, false, List, [], ◌∷◌, slice_get, slice_index_or, count_by, map, Option, None, Some, option_and_then, option_map, if◌then◌else◌, pos, neg_ℤ}
 use Rattle.std.specs.List.{find, list_any, zip}
 use Rattle.std.specs.Ordering.{int_eq}
@@ -24,7 +24,7 @@ is_higher Triple = true
 is_higher Quad = true
 is_higher _ = false
 
--- the number of an atom's element, and 0 where there is no such atom
+-- the number of an atom's element, and 0 if there is no such atom
 abbrev pub number_at : List SketchAtom → ℕ → ℕ
 number_at atoms a = slice_index_or (map (λ x. x.number) atoms) a 0
 
@@ -39,11 +39,11 @@ is_oxygen number = number == 8
 abbrev pub is_hetero : ℕ → Bool
 is_hetero number = (number == 8) || ((number == 7) || (number == 16))
 
--- how many of the bonds, each with whether it is a ring bond, end at the atom and pass the test
+-- the number of bonds, each with whether it is a ring bond, that end at the atom and pass the test
 abbrev pub count_at : List (SketchBond × Bool) → ℕ → (SketchBond → Bool → Bool) → ℕ
 count_at pairs a test = count_by (λ p. ends_at a p.0 && test p.0 p.1) pairs
 
--- what the table reads of an atom and of these bonds
+-- the facts that the table reads of an atom and of these bonds
 abbrev pub environment_among : List SketchAtom → ℕ → SketchAtom → List (SketchBond × Bool) → Environment
 environment_among atoms a x pairs = record {
   number = x.number;
@@ -82,14 +82,14 @@ abbrev pub has_doubles : Doubles → Environment → Bool
 has_doubles Absent x = (x.ring_doubles == 0) && (x.outer_doubles == 0)
 -- exactly one, a ring bond
 has_doubles Ring x = (x.ring_doubles == 1) && (x.outer_doubles == 0)
--- exactly one that is a ring bond, and one that is none, to O
+-- exactly two: one that is a ring bond, and one that is not, to O
 has_doubles RingAndOxygen x = (x.ring_doubles == 1) && (x.outer_doubles == 1) && (x.to_oxygen == 1)
 -- exactly one, no ring bond, to O
 has_doubles Oxygen x = (x.ring_doubles == 0) && (x.outer_doubles == 1) && (x.to_oxygen == 1)
 -- exactly one, no ring bond, to O, N or S
 has_doubles Hetero x = (x.ring_doubles == 0) && (x.outer_doubles == 1) && (x.to_hetero == 1)
 
--- so many neighbours and hydrogens, or any number
+-- this number of neighbours and hydrogens, or any number
 abbrev pub has_connected : Option ℕ → Environment → Bool
 has_connected None x = true
 has_connected (Some n) x = (x.neighbours + x.hydrogens) == n
@@ -153,7 +153,7 @@ row_of x = find (λ row. fits row x) rows
 abbrev pub is_eligible : Environment → Bool
 is_eligible x = ((x.neighbours == 2) || (x.neighbours == 3)) && nat_le 2 x.ring_bonds && (x.higher == 0)
 
--- the row of what is read of an atom, if it is a candidate
+-- the row of an atom with these facts, if it is a candidate
 abbrev pub candidate_row : Environment → Option Row
 candidate_row x = if is_eligible x then row_of x else None
 
@@ -161,6 +161,6 @@ candidate_row x = if is_eligible x then row_of x else None
 abbrev pub row_at : SketchTerm → List Bool → ℕ → Option Row
 row_at s rings a = option_and_then (λ x. candidate_row (environment_of s rings a x)) (slice_get s.atoms a)
 
--- the electrons that an atom gives; none where it is no candidate
+-- the electrons that an atom gives; `None` if it is not a candidate
 abbrev pub electrons : SketchTerm → List Bool → ℕ → Option ℕ
 electrons s rings a = option_map (λ row. row.electrons) (row_at s rings a)

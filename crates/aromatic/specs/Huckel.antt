@@ -14,14 +14,14 @@ use Rattle.aromatic.specs.declared.perception.AromFault.TheVariants.{Aromatic, N
 use Rattle.aromatic.specs.declared.table.Row.{Row}
 use Rattle.aromatic.specs.Electrons.{row_at, electrons, is_double, by_ring_double}
 
--- a simple cycle of at most LONGEST atoms, each of which gives electrons, that sum to 2 modulo 4
+-- a simple cycle of at most LONGEST atoms, all of which give electrons, that sum to 2 modulo 4
 pub record IsHuckelBy (ends : Ends) (gives : ℕ → Option ℕ) (atoms : List ℕ) : Type 0 where
   pub cycle : IsSimpleCycle ends atoms
   pub most : length atoms ≤ LONGEST
   pub candidates : All (λ a. IsSome (gives a)) atoms
   pub count : sum_by (λ a. unwrap_or (gives a) 0) atoms % 4 ≡ 2
 
--- the same of candidates: a simple cycle of 3 to 18 candidates whose electrons sum to 2 modulo 4
+-- as `IsHuckelBy`, of candidates: a simple cycle of 3 to 18 candidates whose electrons sum to 2 modulo 4
 abbrev pub IsHuckelCycle : SketchTerm → List Bool → List ℕ → Type 0
 IsHuckelCycle s rings atoms = IsHuckelBy (sketch_ends s) (electrons s rings) atoms
 
@@ -44,7 +44,7 @@ abbrev pub IsRefused : SketchTerm → List Bool → ℕ → SketchAtom → Type 
 IsRefused s rings a x = ((x.lower ≡ true) × (IsAromaticAtom s rings a → ⊥))
     ⊎ ((x.lower ≡ false) × (has_colon s.bonds a ≡ true))
 
--- what a bond adds to the valence of an atom that it ends at: 1 where it is aromatic, else its order
+-- the share of a bond in the valence of an atom that it ends at: 1 if it is aromatic, else its order
 abbrev pub share : ℕ → SketchBond → Bool → ℕ
 share a bond aromatic = if ends_at a bond then (if aromatic then 1 else order_of bond.kind) else 0
 
@@ -57,21 +57,21 @@ abbrev pub adds_by : Bool → Option Row → Bool
 adds_by aromatic_double None = false
 adds_by aromatic_double (Some row) = (row.electrons == 1) && (not (by_ring_double row) || aromatic_double)
 
--- the same at an atom
+-- as `adds_by`, at an atom
 abbrev pub adds_one : List SketchBond → List Bool → ℕ → Option Row → Bool
 adds_one bonds aromatic a row = adds_by (has_aromatic_double bonds aromatic a) row
 
--- what the bonds of an atom add to its valence
+-- the sum of the shares of an atom's bonds in its valence
 abbrev pub bonded : List SketchBond → List Bool → ℕ → ℕ
 bonded bonds aromatic a = sum_by (λ p. share a p.0 p.1) (zip bonds aromatic)
 
--- the bonds of an atom, its hydrogens, and one more where it is aromatic and its row adds one
+-- the bonds of an atom, its hydrogens, and one more if it is aromatic and its row adds one
 abbrev pub valence_of : SketchTerm → List Bool → List Bool → List Bool → ℕ → SketchAtom → ℕ
 valence_of s rings aromatic_atoms aromatic_bonds a x =
     bonded s.bonds aromatic_bonds a + x.hydrogens
     + (if slice_index_or aromatic_atoms a false && adds_one s.bonds aromatic_bonds a (row_at s rings a) then 1 else 0)
 
--- What perception finds in a sketch: a truth value for each atom and for each bond, and a valence for each atom.
+-- The result of perception: a truth value for each atom and for each bond, and a valence for each atom.
 pub record IsPerceived (s : SketchTerm) (rings : List Bool) (aromatic_atoms aromatic_bonds : List Bool)
     (sums : List ℕ) : Type 0 where
   pub atom_each : length aromatic_atoms ≡ length s.atoms
@@ -88,7 +88,7 @@ IsFirstRefused s rings w =
     (a : ℕ) × (x : SketchAtom) × (slice_get s.atoms a ≡ Some x) × IsRefused s rings a x × (x.written ≡ w)
     × ((b : ℕ) (y : SketchAtom) → b < a → slice_get s.atoms b ≡ Some y → IsRefused s rings b y → ⊥)
 
--- an atom is at fault exactly where it is the first that is refused; of memory nothing is said
+-- an atom is at fault exactly if it is the first that is refused; of memory nothing is said
 abbrev pub IsFaultOf : SketchTerm → List Bool → AromFault → Type 0
 IsFaultOf s rings (Aromatic w) = IsFirstRefused s rings w
 IsFaultOf s rings NoMemory = Unit {0}

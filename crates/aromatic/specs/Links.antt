@@ -11,7 +11,7 @@ links_in links = map (λ v. v.items) links
 abbrev pub links_at : List (List Link) → ℕ → List Link
 links_at links a = slice_index_or links a []
 
--- some link of a leads to n
+-- a link of a leads to n
 abbrev pub IsLinked : List (List Link) → ℕ → ℕ → Type 0
 IsLinked links a n = (b : ℕ) × Contains (links_at links a) (record { to = n; bond = b })
 
@@ -19,7 +19,7 @@ IsLinked links a n = (b : ℕ) × Contains (links_at links a) (record { to = n; 
 abbrev pub AreClosed : List (List Link) → Type 0
 AreClosed links = (a n : ℕ) → IsLinked links a n → n < length links
 
--- Where a link leads, a link leads back.
+-- If a link leads from a to n, a link leads from n to a.
 abbrev pub AreMutual : List (List Link) → Type 0
 AreMutual links = (a n : ℕ) → IsLinked links a n → IsLinked links n a
 

@@ -60,16 +60,15 @@ pub record Completes (links : List (List Link)) (gives : List (Option ℕ)) (tar
     pub steps : AreSteps links path
     pub route : IsRoute links gives target (atoms_of path)
 
--- ---- cycles and marks, where the electrons of each atom are told
+-- ---- cycles and marks, by the electrons of each atom
 
 -- the bond lies on a Hückel cycle
 abbrev pub IsAromaticBy : Ends → List (Option ℕ) → ℕ → Type 0
 IsAromaticBy ends gives b = (atoms : List ℕ) × IsHuckelBy ends (λ a. slice_index_or gives a None) atoms
     × LiesOn ends b atoms
 
--- The bonds that searches may go over, each bond on a Hückel cycle among them, and the links between the candidates
--- that
--- these bonds join.
+-- The bonds that searches may go over, with each bond on a Hückel cycle among them. The links are those between the
+-- candidates that these bonds join.
 pub record IsNet (ends : Ends) (possible : List Bool) (gives : List (Option ℕ)) (links : List (List Link)) : Type 0
   where
     pub graph : IsSimpleGraph (length gives) ends
@@ -83,7 +82,7 @@ pub record AreMarksBelow (ends : Ends) (gives : List (Option ℕ)) (k : ℕ) (ma
   pub sound : (b : ℕ) → slice_index_or marks b false ≡ true → IsAromaticBy ends gives b
   pub each : (b : ℕ) → b < k → IsAromaticBy ends gives b → slice_index_or marks b false ≡ true
 
--- ---- what is read of a sketch
+-- ---- facts about a sketch
 
 -- a marked bond below place k ends at the atom
 abbrev pub IsMarkedEnd : Ends → List Bool → ℕ → ℕ → Type 0

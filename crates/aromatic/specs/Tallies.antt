@@ -1,4 +1,4 @@
--- The sum of the orders of an atom's bonds, and what is read of it. For private clauses alone.
+-- The sum of the orders of an atom's bonds, and facts about them. For private clauses alone.
 use Rattle.std.specs.Prelude.{◌≡◌, ℕ, ◌+◌, ◌<◌, ◌&&◌, ◌||◌, not, Bool, true, false, List, slice_get, slice_index_or, Option, None, Some, if◌then◌else◌}
 use Rattle.chem_core.specs.declared.sketch.SketchAtom.{SketchAtom}
 use Rattle.chem_core.specs.declared.sketch.SketchBond.{SketchBond}
@@ -21,7 +21,7 @@ with_bond t kind aromatic = record {
   colon = t.colon || is_colon kind;
 }
 
--- the sum of the orders of its bonds, and what is read of them
+-- the sum of the orders of its bonds, and facts about them
 abbrev pub tally_of : List SketchBond → List Bool → ℕ → Tally
 tally_of bonds aromatic a = record {
   bonded = bonded bonds aromatic a;
@@ -37,11 +37,11 @@ tally_at tallies a = slice_index_or tallies a no_bonds
 abbrev pub AreTallies : List SketchBond → List Bool → List Tally → Type 0
 AreTallies bonds aromatic tallies = (a : ℕ) → tally_at tallies a ≡ tally_of bonds aromatic a
 
--- the atom is refused, where it is told whether it is aromatic and whether a bond `:` ends at it
+-- the atom is refused, by whether it is aromatic and whether a bond `:` ends at it
 abbrev pub refused_by : Bool → Bool → SketchAtom → Bool
 refused_by aromatic colon x = if x.lower then not aromatic else colon
 
--- the same of the atom at a place
+-- as `refused_by`, of the atom at a place
 abbrev pub refused_at : List Bool → List Tally → ℕ → SketchAtom → Bool
 refused_at aromatic tallies a x = refused_by (slice_index_or aromatic a false) (tally_at tallies a).colon x
 
@@ -60,7 +60,7 @@ abbrev pub valence_told : Tally → Option Row → Bool → SketchAtom → ℕ
 valence_told tally row aromatic x = tally.bonded + x.hydrogens
     + (if aromatic && adds_by tally.aromatic_double row then 1 else 0)
 
--- the same of the atom at a place
+-- as `valence_told`, of the atom at a place
 abbrev pub valence_at : List Bool → List Tally → List (Option Row) → ℕ → SketchAtom → ℕ
 valence_at aromatic tallies rows a x = valence_told (tally_at tallies a) (slice_index_or rows a None)
     (slice_index_or aromatic a false) x

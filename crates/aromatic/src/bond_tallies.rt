@@ -9,14 +9,14 @@ use bumpalo::Bump;
 use chem_core::{SketchBond, SketchKind};
 use std::alloc::AllocError;
 
-/// What is read of an atom's bonds.
+/// The facts about an atom's bonds.
 #[derive(Clone, Copy, Debug, PartialEq, Eq)]
 pub struct Tally {
     /// The sum of their orders, aromatic ones as 1.
     pub bonded: u8,
-    /// Whether one of them is a double bond that has become aromatic.
+    /// True if one of them is a double bond that has become aromatic.
     pub aromatic_double: bool,
-    /// Whether one of them is written `:`.
+    /// True if one of them is written `:`.
     pub colon: bool,
 }
 

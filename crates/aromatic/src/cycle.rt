@@ -15,7 +15,7 @@ use std::alloc::AllocError;
 #[derive(Drop)]
 pub struct Scratch<'a> {
     pub path: Path<'a>,
-    /// How far each atom is from the target. Between two searches no atom has a distance.
+    /// The distance of each atom from the target. Between two searches no atom has a distance.
     pub distances: Vec<u8, &'a Bump>,
     /// The atoms that have a distance.
     pub queue: Vec<u16, &'a Bump>,
@@ -25,7 +25,7 @@ pub struct Scratch<'a> {
 #[derive(Drop)]
 pub struct Path<'a> {
     pub links: Vec<Link, &'a Bump>,
-    /// For each atom whether it is on the path. Between two searches none is.
+    /// For each atom, true if it is on the path. Between two searches no atom is.
     pub flags: Vec<bool, &'a Bump>,
 }
 
@@ -44,11 +44,11 @@ impl<'a> Scratch<'a> {
     }
 }
 
-/// Looks for a path that closes to a Hückel cycle: it begins with the link, which leads from the target to another
-/// atom, and goes on from there, over at least one more atom, to the target. On `Ok(true)` it stands in the scratch.
+/// Looks for a path that closes to a Hückel cycle. It begins with the link, which leads from the target to another
+/// atom, and goes on from there, over at least one more atom, to the target. On `Ok(true)` it is in the scratch.
 ///
-/// A candidate has at most three neighbours, so the ring bonds at it lie in one block, and a search never leaves the
-/// block of its bond.
+/// A candidate has at most three neighbours. So its ring bonds lie in one block, and a search never leaves the block of
+/// its bond.
 pub fn closes(
     links: &[Links<'_>],
     gives: &[Option<u8>],
@@ -78,8 +78,8 @@ pub fn closes(
     Ok(found)
 }
 
-// Completes the path so that it ends at the target, if it can be; else the path is as before. An atom is tried only
-// where it is near enough to the target. The flags are left as before.
+// Completes the path so that it ends at the target, if it can be; else the path is as before. An atom is tried only if
+// it is near enough to the target. The flags are left as before.
 fn extend(
     links: &[Links<'_>],
     gives: &[Option<u8>],
@@ -138,7 +138,7 @@ impl Path<'_> {
         Ok(())
     }
 
-    // Whether the atom is new on the path, and near enough to the target for a cycle of at most `LONGEST` atoms.
+    // True if the atom is new on the path, and near enough to the target for a cycle of at most `LONGEST` atoms.
     fn may_go_to(&self, atom: u16, distances: &[u8]) -> bool
         requires few { length self.now.links.items ≤ LONGEST }
         requires flagged { atom < length self.now.flags.items }
@@ -151,7 +151,7 @@ impl Path<'_> {
     }
 }
 
-// Whether there are at least `SHORTEST` atoms, whose electrons sum to 2 modulo 4.
+// True if there are at least `SHORTEST` atoms, whose electrons sum to 2 modulo 4.
 fn is_huckel(gives: &[Option<u8>], path: &[Link]) -> bool
     requires few { length path.now ≤ LONGEST }
     requires in_range { All (λ l. l.to < length gives.now) path.now }

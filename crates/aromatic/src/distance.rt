@@ -1,4 +1,4 @@
-//! How many links lead from atoms to the target of a search, by a breadth-first search from there.
+//! The number of links from atoms to the target of a search, by a breadth-first search from there.
 ghost use Rattle.std.specs.Prelude.{◌≡◌, ◌<◌, ◌+◌, length, replicate, All, OnOk};
 ghost use Rattle.aromatic.specs.Links.{AreClosed, AreMutual, links_in};
 ghost use Rattle.aromatic.specs.Distances.{AreDistances, IsQueue, IsSpread};
@@ -9,8 +9,8 @@ use crate::links::{Links, links_of};
 use bumpalo::Bump;
 use std::alloc::AllocError;
 
-/// Stands for a distance of `LONGEST` links or more. A Hückel cycle has at most that many atoms, so no cycle through
-/// the target passes such an atom.
+/// A distance of `LONGEST` links or more. A Hückel cycle has at most that many atoms, so no cycle through the target
+/// passes such an atom.
 pub const FAR: u8 = LONGEST as u8;
 
 /// Writes the distance of each atom that is nearer than `FAR`, and puts these atoms into the queue. Only these and

@@ -1,4 +1,4 @@
-//! What the table reads of an atom.
+//! The facts that the table reads of an atom.
 ghost use Rattle.std.specs.Prelude.{◌≡◌, ◌≢◌, ◌<◌, ℕ, length, map, slice_get, slice_index_or, All, IfOk, Some, if◌then◌else◌};
 ghost use Rattle.std.specs.List.{zip};
 ghost use Rattle.chem_core.specs.Sketch.{ends_at};
@@ -10,7 +10,7 @@ use bumpalo::Bump;
 use chem_core::{SketchAtom, SketchBond, SketchKind};
 use std::alloc::AllocError;
 
-/// What the table reads of an atom: how it is written, and how many of its bonds are of which kind.
+/// The facts that the table reads of an atom: its written form, and the number of its bonds of each kind.
 #[derive(Clone, Copy, Debug, PartialEq, Eq)]
 pub struct Environment {
     pub number: u8,
@@ -31,7 +31,7 @@ pub struct Environment {
     pub to_hetero: u16,
 }
 
-/// What the table reads of each atom, by the atom's place, in one pass over the bonds.
+/// The facts that the table reads of each atom, by the atom's place, in one pass over the bonds.
 pub fn environments<'a>(
     arena: &'a Bump,
     atoms: &[SketchAtom],
@@ -95,7 +95,7 @@ fn count_at_ends(
     environments[b].add(bond.kind, ring, atoms[a].number);
 }
 
-/// What the table reads of one atom.
+/// The facts that the table reads of one atom.
 pub fn environment_of(
     atoms: &[SketchAtom],
     bonds: &[SketchBond],
@@ -141,7 +141,7 @@ fn count_bond(
 }
 
 impl Environment {
-    /// Whether it is that of a candidate, whatever its row.
+    /// True if it is that of a candidate, whatever its row.
     pub fn is_eligible(&self) -> bool
         ensures { result ≡ is_eligible self.now }
     {

@@ -1,7 +1,7 @@
-//! Which bonds and atoms of a sketch lie on Hückel cycles.
+//! The bonds and atoms of a sketch that lie on Hückel cycles.
 //!
-//! Each bond is searched in turn. If a Hückel cycle goes through it, all bonds of the cycle are marked; if none does,
-//! the bond is ruled out, so that no later search goes over it.
+//! Each bond is searched in turn. If a Hückel cycle goes through it, all bonds of the cycle are marked. Otherwise the
+//! bond is ruled out, so that no later search goes over it.
 ghost use Rattle.std.specs.Prelude.{◌≡◌, ◌<◌, ◌+◌, ◌↔◌, ◌⊎◌, List, Option, length, map, replicate, option_map, slice_index_or, slice_set, All, Contains, IfOk, OnOk, ℕ, true, false};
 ghost use Rattle.chem_core.specs.Graph.{IsSimpleGraph};
 ghost use Rattle.chem_core.specs.RingFacts.{AreRingBonds};
@@ -16,17 +16,17 @@ use bumpalo::Bump;
 use chem_core::{SketchAtom, SketchBond};
 use std::alloc::AllocError;
 
-// What the searches share.
+// The data that the searches share.
 #[derive(Drop)]
 struct Search<'a> {
-    // For each bond whether a search may go over it. Each bond on a Hückel cycle is possible.
+    // For each bond, true if a search may go over it. Each bond on a Hückel cycle is possible.
     possible: Vec<bool, &'a Bump>,
     // The links by possible bonds.
     links: Vec<Links<'a>, &'a Bump>,
     scratch: Scratch<'a>,
 }
 
-/// Which bonds lie on a Hückel cycle.
+/// The bonds that lie on a Hückel cycle.
 pub fn find_bonds<'a>(
     arena: &'a Bump,
     atoms: &[SketchAtom],
@@ -46,7 +46,7 @@ pub fn find_bonds<'a>(
     Ok(marks)
 }
 
-/// Which atoms lie on a Hückel cycle.
+/// The atoms that lie on a Hückel cycle.
 pub fn find_atoms<'a>(
     arena: &'a Bump,
     atoms: &[SketchAtom],
@@ -63,7 +63,7 @@ pub fn find_atoms<'a>(
     Ok(flags)
 }
 
-// What each atom gives, by its row.
+// The electrons that each atom gives, by its row.
 fn electrons_of<'a>(
     arena: &'a Bump,
     rows: &[Option<Row>],
@@ -174,7 +174,7 @@ fn mark_path(marks: &mut [bool], path: &[Link])
     }
 }
 
-// Which atoms are ends of these bonds.
+// The atoms that are ends of these bonds.
 fn ends_of_marked<'a>(
     arena: &'a Bump,
     count: usize,

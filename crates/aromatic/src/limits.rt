@@ -1,4 +1,4 @@
-//! How many atoms a Hückel cycle has.
+//! The number of atoms of a Hückel cycle.
 
 /// At least.
 pub const SHORTEST: usize = 3;

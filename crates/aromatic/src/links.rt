@@ -36,7 +36,7 @@ pub fn links_between<'a>(
     Ok(links)
 }
 
-/// Whether both ends of a bond are candidates.
+/// True if both ends of a bond are candidates.
 pub fn are_candidates(gives: &[Option<u8>], bond: SketchBond) -> bool
     requires a_in_range { bond.a < length gives.now }
     requires b_in_range { bond.b < length gives.now }

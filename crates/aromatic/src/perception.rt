@@ -17,21 +17,21 @@ use chem_core::{Sketch, SketchAtom, SketchBond};
 use std::alloc::{AllocError, Allocator, Global};
 use thiserror::Error;
 
-/// What perception finds: whether each atom and each bond is aromatic, and the valence of each atom, by their places.
+/// The result of perception: the aromatic atoms and bonds, and the valence of each atom, by their places.
 #[derive(Debug, Drop)]
 pub struct Arom<A: Allocator = Global> {
     pub atoms: Vec<bool, A>,
     pub bonds: Vec<bool, A>,
-    /// The sum of an atom's bond orders, aromatic bonds as 1, and its hydrogens. It is 1 more for an aromatic atom that
-    /// gives one electron, unless the electron is that of a double bond in a ring that is not aromatic.
+    /// The sum of an atom's bond orders, aromatic bonds as 1, and its hydrogens. An aromatic atom that gives one
+    /// electron has 1 more. It has not if the electron is that of a double bond in a ring that is not aromatic.
     pub valences: Vec<u8, A>,
 }
 
 /// Why perception fails.
 #[derive(Clone, Copy, Debug, PartialEq, Eq, Drop, Error)]
 pub enum AromFault {
-    /// The first atom that is written in lower case and is not aromatic, or is not in lower case and has a bond `:`, by
-    /// its place as written.
+    /// The first atom that is written in lower case and is not aromatic, or is not in lower case and has a bond `:`.
+    /// The number is its place as written.
     #[error("atom {0} is not aromatic")]
     Aromatic(u16),
     /// Memory ran out.
@@ -50,15 +50,15 @@ impl From<AllocError> for AromFault {
 }
 
 /// The aromatic atoms and bonds of a sketch, and the valence of each atom, by the rows of this project's table. An atom
-/// or bond is aromatic where it lies on a simple cycle of 3 to 18 candidates whose electrons sum to 2 modulo 4.
+/// or bond is aromatic if it lies on a simple cycle of 3 to 18 candidates whose electrons sum to 2 modulo 4.
 ///
 /// Fails at the first atom that is written in lower case and is not aromatic, or is not in lower case and has a bond
-/// `:`; or for want of memory.
+/// `:`. Also fails for want of memory.
 ///
 /// Most structures take time linear in their atoms and bonds. A search for each ring bond between candidates follows
-/// paths of at most 18 atoms, with at most two ways on from each, so one search takes at most 2^17 paths; a bond that
-/// lies on no such cycle is left out of all later searches. The worst structure that was found, by a search for bad
-/// ones, takes some two million steps in all, where drug-like structures take some hundred. `bench/aromatic.sh` has it.
+/// paths of at most 18 atoms, with at most two ways on from each. So one search takes at most 2^17 paths; a bond that
+/// lies on no such cycle is left out of all later searches. The worst known structure, found by a search for bad ones,
+/// takes some two million steps in all; drug-like structures take some hundred. `bench/aromatic.sh` has it.
 pub fn perceive(alloc: Global, sketch: &Sketch, bond_in_ring: &[bool]) -> Result<Arom, AromFault>
     requires sound { IsSound sketch.now }
     requires rings { AreRingBonds (sketch_ends sketch.now) bond_in_ring.now }
@@ -75,7 +75,7 @@ pub fn perceive(alloc: Global, sketch: &Sketch, bond_in_ring: &[bool]) -> Result
     })
 }
 
-/// The same, with all memory from an arena, for one sketch after another.
+/// As `perceive`, but with all memory from an arena, for one sketch after another.
 pub fn perceive_in<'a>(
     arena: &'a Bump,
     sketch: &Sketch,
@@ -90,7 +90,7 @@ pub fn perceive_in<'a>(
     perceive_lists(arena, &sketch.atoms, &sketch.bonds, bond_in_ring)
 }
 
-/// The electrons that an atom gives to an aromatic ring; none where it is no candidate. Takes no memory.
+/// The electrons that an atom gives to an aromatic ring; `None` if it is not a candidate. Takes no memory.
 pub fn electrons(sketch: &Sketch, bond_in_ring: &[bool], atom: u16) -> Option<u8>
     requires sound { IsSound sketch.now }
     requires rings { AreRingBonds (sketch_ends sketch.now) bond_in_ring.now }
@@ -128,7 +128,7 @@ fn perceive_lists<'a>(
     })
 }
 
-// The row of an atom; none where it is no candidate.
+// The row of an atom; `None` if it is not a candidate.
 fn row_at(
     atoms: &[SketchAtom],
     bonds: &[SketchBond],
@@ -143,7 +143,7 @@ fn row_at(
     environment_of(atoms, bonds, bond_in_ring, atom).row()
 }
 
-// The row of each atom; none where it is no candidate.
+// The row of each atom; `None` if it is not a candidate.
 fn rows_of<'a>(
     arena: &'a Bump,
     atoms: &[SketchAtom],
@@ -168,7 +168,7 @@ fn rows_by<'a>(
     environments.iter().map(Environment::row).collect(arena)
 }
 
-// The valence of an atom: its bond orders, its hydrogens, and 1 more where it is aromatic and its row adds one.
+// The valence of an atom: its bond orders, its hydrogens, and 1 more if it is aromatic and its row adds one.
 fn valence(atom: &SketchAtom, tally: Tally, row: Option<Row>, aromatic: bool) -> u8
     requires few { tally.bonded ≤ 48 }
     requires hydrogens { atom.now.hydrogens ≤ 27 }
@@ -178,7 +178,7 @@ fn valence(atom: &SketchAtom, tally: Tally, row: Option<Row>, aromatic: bool) ->
     tally.bonded + atom.hydrogens + u8::from(more)
 }
 
-// Whether the row gives one electron and either names no double bond in a ring or that bond has become aromatic.
+// True if the row gives one electron; a double bond in a ring that it names must have become aromatic.
 fn adds_one(row: Option<Row>, aromatic_double: bool) -> bool
     ensures { result ≡ adds_by aromatic_double row }
 {
@@ -203,7 +203,7 @@ fn first_refused(atoms: &[SketchAtom], tallies: &[Tally], flags: &[bool]) -> Opt
     None
 }
 
-// Whether an atom is refused, by whether it is aromatic and whether a bond `:` ends at it.
+// True if an atom is refused, by whether it is aromatic and whether a bond `:` ends at it.
 fn is_refused(atom: &SketchAtom, aromatic: bool, colon: bool) -> bool
     ensures { result ≡ refused_by aromatic colon atom.now }
 {

@@ -1,4 +1,5 @@
-//! The table of what an atom gives to an aromatic ring, this project's own profile. At most one row fits an atom.
+//! The table of the electrons that an atom gives to an aromatic ring, this project's own profile. At most one row fits
+//! an atom.
 ghost use Rattle.std.specs.Prelude.{◌≡◌, ◌<◌, ℕ, length, pos, slice_index_or, true};
 ghost use Rattle.std.specs.List.{find};
 ghost use Rattle.aromatic.specs.declared.environment.Environment.{Environment};
@@ -40,16 +41,16 @@ pub enum Doubles {
 pub struct Row {
     pub family: Family,
     pub charge: i8,
-    /// Whether it asks for a symbol in lower case.
+    /// True if it asks for a symbol in lower case.
     pub lower: bool,
     pub doubles: Doubles,
-    /// Neighbours and hydrogens, where it asks for a number of them.
+    /// Neighbours and hydrogens, if it asks for a number of them.
     pub connected: Option<u8>,
     pub electrons: u8,
 }
 
 impl Row {
-    /// Whether the row is that of an atom.
+    /// True if the row is that of an atom.
     #[tactic(auto, unfolding(crate::specs::Electrons::fits))]
     pub fn fits(&self, environment: &Environment) -> bool
         ensures { result ≡ fits self.now environment.now }
@@ -61,7 +62,7 @@ impl Row {
             && has_connected(self.connected, environment)
     }
 
-    /// Whether the row names a double bond in a ring.
+    /// True if the row names a double bond in a ring.
     pub fn by_ring_double(self) -> bool
         ensures { result ≡ by_ring_double self }
     {
@@ -80,7 +81,7 @@ pub fn one_row()
 {}
 
 impl Environment {
-    /// The row that it fits; none where the atom is no candidate.
+    /// The row that it fits; `None` if the atom is not a candidate.
     pub fn row(&self) -> Option<Row>
         ensures { result ≡ candidate_row self.now }
     {

@@ -5,10 +5,10 @@ use Rattle.std.specs.Prelude.{ℕ, ◌≡◌, ◌&&◌, Bool, count_by, false, t
 abbrev pub HasBit : List Bool → ℕ → Type 0
 HasBit print bit = slice_index_or print bit false ≡ true
 
--- how many bits are set
+-- the number of bits that are set
 abbrev pub set_bits : List Bool → ℕ
 set_bits print = count_by (λ bit. bit) print
 
--- how many are in both
+-- the number of bits that are set in both
 abbrev pub shared_bits : List Bool → List Bool → ℕ
 shared_bits left right = count_by (λ p. p.0 && p.1) (zip left right)

@@ -1,4 +1,4 @@
--- The symbols of the elements 1 to 103, by number; at 0 stands `*`, an atom of any element. For callers.
+-- The symbols of the elements 1 to 103, by number; at 0 is `*`, an atom of any element. For callers.
 use Rattle.std.specs.Prelude.{List, ℕ, [], ◌∷◌, codes}
 
 unfoldable pub symbols : List (List ℕ)

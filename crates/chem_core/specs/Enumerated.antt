@@ -1,5 +1,5 @@
--- Lists whose elements are written one after another, each by its place. For proofs alone: here stand lemmas, and no
--- definition that a reader must believe.
+-- Lists whose elements are written one after another, each by its place. For proofs alone: lemmas, and no definition
+-- that a reader must believe.
 use Rattle.std.proofs.Common.{ℕ, ◌+◌, ◌<◌, ◌≡◌, List, [], ◌∷◌, ◌++◌, length, map, take, drop, get_or, set, ap, ◌∙◌, arith}
 use Rattle.std.specs.List.{enumerate_from}
 use Rattle.std.proofs.lemmas.List.{take_more, drop_more, length-take-le, map-append, set_at, length-map, get_or_at, append_assoc}
@@ -26,7 +26,7 @@ pub mapped-more : {X Y : Type 0} (f : ℕ × X → Y) (xs : List X) (i : ℕ) (d
 mapped-more f xs i d within = ap (map f) (enumerate-more xs i d within) ∙ map-append f (enumerate_from 0 (take i xs))
     ((i, get_or xs i d) ∷ [])
 
--- the element at i, where those before it are written
+-- the element at i, after those before it are written
 pub written-at : {X : Type 0} (f : ℕ × X → X) (xs : List X) (i : ℕ) (d : X) → i < length xs
     → get_or (map f (enumerate_from 0 (take i xs)) ++ drop i xs) i d ≡ get_or xs i d
 written-at f xs i d h =

@@ -1,5 +1,4 @@
--- Bonds as pairs of ends: what joins what, cycles, rings. Atoms and bonds are named by their places, from 0.
--- For callers.
+-- Bonds as pairs of ends: neighbours, cycles, rings. Atoms and bonds are named by their places, from 0. For callers.
 use Rattle.std.specs.Prelude.{◌≡◌, ◌≢◌, ◌⊎◌, ℕ, ◌+◌, ◌%◌, ◌<◌, ◌≤◌, List, length, slice_get, slice_index, slice_index_or, [], count_by, Some, All, AllPairs, Contains, ◌==◌, ◌||◌, map}
 use Rattle.std.specs.List.Sorted.{IsStrictlyIncreasing}
 use Rattle.chem_core.specs.declared.limits.TheConstants.{MOST_ATOMS, MOST_BONDS, MOST_NEIGHBOURS}
@@ -12,11 +11,11 @@ Ends = List (ℕ × ℕ)
 abbrev pub JoinsAt : Ends → ℕ → ℕ → ℕ → Type 0
 JoinsAt ends b x y = (slice_get ends b ≡ Some (x, y)) ⊎ (slice_get ends b ≡ Some (y, x))
 
--- some bond joins the atoms x and y
+-- a bond joins the atoms x and y
 abbrev pub Joined : Ends → ℕ → ℕ → Type 0
 Joined ends x y = (b : ℕ) × JoinsAt ends b x y
 
--- how many neighbours the atom has: the bonds that end at it
+-- the number of neighbours of the atom: the bonds that end at it
 abbrev pub degree : Ends → ℕ → ℕ
 degree ends a = count_by (λ e. (e.0 == a) || (e.1 == a)) ends
 
@@ -56,7 +55,7 @@ abbrev pub LiesOn : Ends → ℕ → List ℕ → Type 0
 LiesOn ends b atoms = (i : ℕ) × (i < length atoms) × JoinsAt ends b (slice_index atoms i)
     (slice_index atoms (next_place atoms i))
 
--- a ring bond joins two neighbours of some simple cycle
+-- a ring bond joins two neighbours of a simple cycle
 abbrev pub IsRingBond : Ends → ℕ → Type 0
 IsRingBond ends b = (atoms : List ℕ) × IsSimpleCycle ends atoms × LiesOn ends b atoms
 
@@ -64,13 +63,13 @@ IsRingBond ends b = (atoms : List ℕ) × IsSimpleCycle ends atoms × LiesOn end
 abbrev pub IsRingAtom : Ends → ℕ → Type 0
 IsRingAtom ends a = (b n : ℕ) × JoinsAt ends b a n × IsRingBond ends b
 
--- n is the least length of a simple cycle through the atom, and 0 where there is none
+-- n is the least length of a simple cycle through the atom, and 0 if there is no such cycle
 abbrev pub IsSmallestRing : Ends → ℕ → ℕ → Type 0
 IsSmallestRing ends a n = ((n ≡ 0) × ((atoms : List ℕ) → IsSimpleCycle ends atoms → Contains atoms a → ⊥))
     ⊎ ((atoms : List ℕ) × IsSimpleCycle ends atoms × Contains atoms a × (length atoms ≡ n)
     × ((others : List ℕ) → IsSimpleCycle ends others → Contains others a → n ≤ length others))
 
--- how many of the bonds that end at the atom are ring bonds: these, each once
+-- n is the number of ring bonds that end at the atom: these, each once
 abbrev pub IsRingBondCount : Ends → ℕ → ℕ → Type 0
 IsRingBondCount ends a n = (bonds : List ℕ) × IsStrictlyIncreasing bonds × (length bonds ≡ n)
     × ((b : ℕ) → Contains bonds b → ((x : ℕ) × JoinsAt ends b a x) × IsRingBond ends b)

@@ -1,4 +1,4 @@
--- What a molecule keeps about its fields. For private clauses alone.
+-- The invariant of a molecule's fields. For private clauses alone.
 use Rattle.std.specs.Prelude.{◌≡◌, ℕ, ◌+◌, ◌*◌, ◌<◌, ◌≤◌, ◌↔◌, ◌++◌, Bool, false, List, [], length, map, None, Option, slice_get, slice_index, slice_index_or, slice_range, Some, true, IsPermutation}
 use Rattle.std.specs.Int.{bit_at}
 use Rattle.std.specs.List.Sorted.{IsNonDecreasing}
@@ -17,7 +17,7 @@ use Rattle.chem_core.specs.Sorts.{AreCounts}
 use Rattle.chem_core.specs.Symbols.{HasClass}
 use Rattle.chem_core.specs.Words.{bits_of}
 
--- where list k ends: where the next one starts, or at the end of all
+-- the end of list k: the start of the next one, or the end of all
 abbrev pub end_of : {X : Type 0} → List X → List ℕ → ℕ → ℕ
 end_of items starts k = slice_index_or starts (k + 1) (length items)
 
@@ -28,21 +28,21 @@ pub record AreInTurn {X : Type 0} (lists : List (List X)) (items : List X) (star
       × (end_of items starts k ≤ length items)
       × (slice_range items (slice_index starts k) (end_of items starts k) ≡ slice_index_or lists k [])
 
--- the neighbours of so many atoms, one after another, as many of each as bonds end at it
+-- the neighbours of `atoms` atoms, one after another; each atom has one for each bond that ends at it
 pub record AreNeighboursInTurn (ends : Ends) (atoms : ℕ) (items : List (ℕ × ℕ)) (starts : List ℕ) : Type 0 where
   pub lists : List (List (ℕ × ℕ))
   pub neighbours : AreNeighbourLists ends atoms lists
   pub counts : (a : ℕ) → a < atoms → length (slice_index_or lists a []) ≡ degree ends a
   pub turn : AreInTurn lists items starts
 
--- behind the pairs of before come those of the steps, in ascending order
+-- after the pairs of before come those of the steps, in ascending order
 pub record AreSortedBehind (before : List (ℕ × ℕ)) (steps : List Step) (after : List (ℕ × ℕ)) : Type 0 where
   pub added : List (ℕ × ℕ)
   pub behind : after ≡ before ++ added
   pub same : IsPermutation (map (λ s. (s.to, s.bond)) steps) added
   pub ascending : IsNonDecreasing (map (λ p. p.0) added)
 
--- a symbol as a byte, and another one where there is no atom
+-- a symbol as a byte, and another byte if there is no atom
 abbrev pub code : ℕ → Bool → ℕ
 code number true = 2 * number + 1
 code number false = 2 * number

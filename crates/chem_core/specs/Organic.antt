@@ -1,5 +1,5 @@
--- The organic subset in upper case, which stands without brackets (OpenSMILES 1.0, section 3.1.5), and bond symbols.
--- For callers.
+-- The organic subset in upper case, written without brackets (OpenSMILES 1.0, section 3.1.5), and bond symbols. For
+-- callers.
 use Rattle.std.specs.Prelude.{ℕ, List, [], ◌∷◌}
 
 pub data Organic : Type 0 where

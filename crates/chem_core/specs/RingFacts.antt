@@ -1,4 +1,4 @@
--- Ring facts as lists: which bonds are ring bonds, and the smallest ring of each atom. For callers.
+-- Ring facts as lists: a truth value for each bond, and the smallest ring of each atom. For callers.
 use Rattle.std.specs.Prelude.{◌≡◌, ◌<◌, ◌↔◌, ℕ, Bool, true, false, List, length, slice_index, slice_index_or}
 use Rattle.chem_core.specs.Graph.{Ends, IsRingBond, IsSmallestRing}
 

@@ -1,4 +1,4 @@
--- A structure as it is written, without where it lies in memory. For callers.
+-- A structure as it is written, without its place in memory. For callers.
 use Rattle.std.specs.Prelude.{ℕ, Bool, ◌==◌, ◌||◌, List}
 use Rattle.chem_core.specs.declared.sketch.SketchAtom.{SketchAtom}
 use Rattle.chem_core.specs.declared.sketch.SketchBond.{SketchBond}
@@ -9,7 +9,7 @@ pub record SketchTerm : Type 0 where
   pub atoms : List SketchAtom
   pub bonds : List SketchBond
 
--- a bond's order; one without a symbol and `:` are single, where they are not aromatic
+-- a bond's order; a bond without a symbol and `:` are single, if they are not aromatic
 abbrev pub order_of : SketchKind → ℕ
 order_of Unwritten = 1
 order_of Single = 1

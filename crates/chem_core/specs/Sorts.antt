@@ -1,5 +1,5 @@
--- Sorts of atoms and of bonds, by the classes of atoms and the kinds of bonds alone, and how many of each a molecule
--- has. For callers.
+-- Sorts of atoms and of bonds, by the classes of atoms and the kinds of bonds alone, and the number of each that a
+-- molecule has. For callers.
 use Rattle.std.specs.Prelude.{◌≡◌, ◌⊎◌, ◌==◌, ◌&&◌, ◌||◌, ◌<◌, ℕ, Bool, List, [], ◌∷◌, None, Option, Some, count_by, min, slice_get, slice_index, slice_index_or}
 use Rattle.std.specs.Int.{bit_at}
 use Rattle.chem_core.specs.declared.sort_counts.BondSort.{BondSort}
@@ -58,7 +58,7 @@ class_in atoms place = class_there (slice_get atoms place)
 abbrev pub is_atom_of : ℕ → Atom → Bool
 is_atom_of k x = has_class (atom_sort k) (class_of x)
 
--- a bond of that kind with ends of these classes is of the sort, the one way round or the other
+-- a bond of this kind with ends of these classes is of the sort, in either direction
 abbrev pub is_of_sort : BondSort → ℕ → ℕ → ℕ → Bool
 is_of_sort s kind a b = has_class s.kinds kind
     && ((has_class s.one a && has_class s.other b) || (has_class s.one b && has_class s.other a))
@@ -67,7 +67,7 @@ is_of_sort s kind a b = has_class s.kinds kind
 abbrev pub is_bond_of : ℕ → List Atom → Bond → Bool
 is_bond_of k atoms x = is_of_sort (bond_sort k) (kind_number x.kind) (class_in atoms x.a) (class_in atoms x.b)
 
--- for each sort how many there are, 255 where they are more
+-- for each sort the number of atoms or bonds of it, 255 if there are more
 pub record AreCounts (atoms : List Atom) (bonds : List Bond) (counts : SortCounts) : Type 0 where
   pub of_atoms : (k : ℕ) → k < 8 → slice_index counts.atoms k ≡ min 255 (count_by (is_atom_of k) atoms)
   pub of_bonds : (k : ℕ) → k < 8 → slice_index counts.bonds k ≡ min 255 (count_by (is_bond_of k atoms) bonds)

@@ -1,4 +1,4 @@
--- What every sketch keeps that a reader gives. For callers.
+-- The invariant of every sketch that a reader gives. For callers.
 use Rattle.std.specs.Prelude.{◌≤◌, List, length, map, All, pos, neg_ℤ, ◌≤ℤ◌}
 use Rattle.chem_core.specs.declared.sketch.SketchAtom.{SketchAtom}
 use Rattle.chem_core.specs.declared.sketch.SketchBond.{SketchBond}

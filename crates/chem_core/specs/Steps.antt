@@ -25,7 +25,7 @@ pub record AreStepsFrom (ends : Ends) (atom : ℕ) (steps : List Step) : Type 0 
   pub once : AllPairs (λ s t. s.bond ≢ t.bond) steps
   pub each : (b y : ℕ) → JoinsAt ends b atom y → Contains steps (record { to = y; bond = b })
 
--- what an adjacency keeps about its fields
+-- the invariant of an adjacency's fields
 pub record IsAdjacentInside (ends : Ends) (lists : List (List Step)) : Type 0 where
   pub graph : IsSimpleGraph (length lists) ends
   pub each : (a : ℕ) → a < length lists → slice_index_or lists a [] ≡ steps_among ends a

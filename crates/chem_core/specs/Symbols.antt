@@ -1,4 +1,4 @@
--- Symbols of atoms, and classes of symbols: a molecule without an atom of a class has none of its symbols. For callers.
+-- Symbols of atoms, and classes of symbols: a molecule without a class has no symbol of that class. For callers.
 use Rattle.std.specs.Prelude.{◌≡◌, ℕ, ◌+◌, ◌*◌, ◌%◌, Bool, Contains, false, List, slice_get, true}
 use Rattle.std.specs.Option.{IsSomeAnd}
 use Rattle.chem_core.specs.declared.mol.Atom.{Atom}
@@ -16,6 +16,6 @@ class_at number false = number % 32 * 2
 abbrev pub class_of : Atom → ℕ
 class_of x = class_at x.number x.aromatic
 
--- an atom is of the class
+-- an atom is of class c
 abbrev pub HasClass : List Atom → ℕ → Type 0
 HasClass atoms c = (x : Atom) × Contains atoms x × (class_of x ≡ c)

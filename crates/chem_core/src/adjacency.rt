@@ -11,7 +11,7 @@ use bumpalo::Bump;
 use std::alloc::AllocError;
 use std::marker::Model;
 
-/// A step from an atom: where it goes, and by which bond.
+/// A step from an atom to a neighbour along a bond. `Mol::neighbours` gives pairs, since callers see their type.
 #[derive(Clone, Copy, Debug, Default, PartialEq, Eq)]
 pub struct Step {
     pub to: u16,
@@ -22,7 +22,7 @@ pub struct Step {
 type Steps = ArrayVec<Step, MOST_NEIGHBOURS>;
 
 /// The adjacency of a sketch, in an arena: for each atom the steps to its neighbours, in the order of the bonds.
-/// Contracts see how many atoms it has, and the ends of its bonds.
+/// Contracts see the number of its atoms and the ends of its bonds.
 #[derive(Drop)]
 pub struct Adjacency<'a> {
     ends: Vec<(u16, u16), &'a Bump>,
@@ -53,7 +53,7 @@ impl<'a> Adjacency<'a> {
         Adjacency::of_ends(arena, sketch.atoms.len(), ends)
     }
 
-    /// The adjacency of so many atoms, by the ends of each bond. Fails only for want of memory.
+    /// The adjacency of `atoms` atoms, by the ends of each bond. Fails only for want of memory.
     pub(crate) fn of_ends(
         arena: &'a Bump,
         atoms: usize,
@@ -67,7 +67,7 @@ impl<'a> Adjacency<'a> {
         Ok(Adjacency { ends, lists })
     }
 
-    /// How many atoms it has.
+    /// The number of its atoms.
     pub fn atoms(&self) -> usize
         ensures value { result ≡ self.now.atoms }
         ensures valid { IsSimpleGraph self.now.atoms self.now.ends }
@@ -113,7 +113,7 @@ fn empty_lists<'a>(arena: &'a Bump, count: usize) -> Result<Vec<Steps, &'a Bump>
     Ok(lists)
 }
 
-// Puts each bond into the steps from each of its ends, where there are no steps yet.
+// Adds each bond to the steps from each of its ends. At the start no atom has a step.
 fn fill(lists: &mut [Steps], ends: &[(u16, u16)])
     requires graph { IsSimpleGraph (length lists.old) ends.now }
     requires none { map (λ v. v.items) lists.old ≡ replicate (length lists.old) [] }
@@ -126,7 +126,7 @@ fn fill(lists: &mut [Steps], ends: &[(u16, u16)])
     }
 }
 
-// Puts a step behind those from an atom, where there is room for it.
+// Appends a step to those from an atom, which has room for it.
 fn add(lists: &mut [Steps], from: u16, step: Step)
     requires within { from < length lists.old }
     requires room { length (slice_index_or (map (λ v. v.items) lists.old) from []) < MOST_NEIGHBOURS }

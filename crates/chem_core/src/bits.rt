@@ -1,9 +1,9 @@
-//! Bits of words: numbered from 0, from the lowest of the first word on.
+//! Bits of words: numbered from 0, beginning with the lowest bit of the first word.
 ghost use Rattle.std.specs.Prelude.{◌≡◌, ◌↔◌, ◌*◌, ◌<◌, true, length, slice_set, IsTrue};
 ghost use Rattle.chem_core.specs.Bits.{HasBit};
 ghost use Rattle.chem_core.specs.Words.{bits_of};
 
-/// Whether a bit is set. None is behind the last word.
+/// True if a bit is set. No bit after the last word is set.
 pub fn has_bit(words: &[u64], bit: u16) -> bool
     ensures { IsTrue result ↔ HasBit (bits_of words.now) bit }
 {

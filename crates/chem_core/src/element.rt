@@ -2,7 +2,7 @@
 ghost use Rattle.std.specs.Prelude.{◌≡◌, ◌≢◌, ◌↔◌, ℕ, ◌≤◌, Some, IsSome, length, map, slice_get, option_map, IfSome, IfNone};
 ghost use Rattle.chem_core.specs.Element.{symbols};
 
-/// The symbol of an atomic number of 0 to 103, where 0 is `*`, an atom of any element; none above.
+/// The symbol of an atomic number of 0 to 103; 0 is `*`, an atom of any element. `None` above 103.
 pub fn symbol_of(number: u8) -> Option<&'static str>
     ensures value { option_map (λ s. s.now) result ≡ slice_get symbols number }
     ensures range { IsSome result ↔ (number ≤ 103) }
@@ -10,7 +10,8 @@ pub fn symbol_of(number: u8) -> Option<&'static str>
     table().get(usize::from(number)).copied()
 }
 
-/// The atomic number of a symbol, with its case as in the periodic table; 0 for `*`.
+/// The atomic number of a symbol, with its case as in the periodic table, and 0 for `*`. `None` if there is no such
+/// symbol.
 pub fn number_of(text: &[u8]) -> Option<u8>
     ensures some { IfSome result (λ number. slice_get symbols number ≡ Some text.now) }
     ensures range { IfSome result (λ number. number ≤ 103) }
@@ -24,7 +25,7 @@ pub fn number_of(text: &[u8]) -> Option<u8>
     None
 }
 
-// The symbols by atomic number; at 0 stands `*`.
+// The symbols by atomic number, with `*` at 0.
 fn table() -> &'static [&'static str]
     ensures value { map (λ s. s.now) result.now ≡ symbols }
     ensures count { length result.now ≡ 104 }

@@ -1,5 +1,5 @@
-//! What a structure is made of: sketches as they are written, molecules as they are meant, fingerprints, and the table
-//! of the elements. The definitions that contracts share stand in `specs/`.
+//! The data of structures: sketches as they are written, molecules as they are meant, fingerprints, and the table of
+//! the elements. The definitions that contracts share are in `specs/`.
 #![tactic(auto)]
 
 mod adjacency;

@@ -1,4 +1,4 @@
-//! How large a structure may be. Counts are those of the structure as it is read, hydrogen atoms included.
+//! The limits on structures. Counts are those of the structure as it is read, with hydrogen atoms.
 ghost use Rattle.std.specs.Prelude.{◌≢◌, ◌<◌, ◌≤◌, ◌↔◌, ℕ, IfOk, IsTrue};
 ghost use Rattle.std.specs.List.{AllByRecursion};
 ghost use Rattle.chem_core.specs.Graph.{degree};
@@ -16,8 +16,8 @@ pub const MOST_BONDS: usize = 999;
 /// The most neighbours of an atom.
 pub const MOST_NEIGHBOURS: usize = 12;
 
-/// Whether no atom has more than `MOST_NEIGHBOURS` neighbours, by the bonds of a structure of that many atoms. Fails
-/// only for want of memory.
+/// True if at most `MOST_NEIGHBOURS` of the bonds of a structure of `atoms` atoms end at each atom. Fails only for want
+/// of memory. Both readers of structures check a sketch by it.
 pub fn are_few_neighbours(
     alloc: Global,
     atoms: usize,

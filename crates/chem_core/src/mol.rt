@@ -1,4 +1,4 @@
-//! Molecules: atoms and bonds as they are meant, each atom's neighbours, what lies on rings, and components.
+//! Molecules: atoms and bonds as they are meant, each atom's neighbours, rings, and components.
 ghost use Rattle.std.specs.Prelude.{◌≡◌, ◌↔◌, ◌+◌, ◌<◌, ◌≤◌, ℕ, List, false, length, map, IsTrue, slice_index_or, IfOk, OnOk};
 ghost use Rattle.std.specs.Int.{bit_at};
 ghost use Rattle.chem_core.specs.Graph.{Ends, AreNeighbours, IsRingBond, IsSmallestRing, degree};
@@ -25,15 +25,16 @@ use std::marker::Model;
 pub struct Atom {
     /// The atomic number, 0 to 103; 0 is an atom of any element, written `*`.
     pub number: u8,
-    /// The mass number, at most 999; 0 where none is written.
+    /// The mass number, at most 999; 0 if none is written.
     pub isotope: u16,
     /// -15 to 15.
     pub charge: i8,
-    /// Hydrogens that are no atoms of the molecule.
+    /// The number of hydrogens that are not atoms of the molecule.
     pub hydrogens: u8,
     pub aromatic: bool,
-    /// The sum of its bond orders, aromatic bonds as 1, and its hydrogens; 1 more for an aromatic atom that gives one
-    /// electron to its ring.
+    /// The sum of its bond orders, aromatic bonds as 1, and its hydrogens. An aromatic atom has 1 more if its row in
+    /// the table of aromaticity gives one electron. A row that rests on a double bond in a ring adds it only if that
+    /// bond has become aromatic.
     pub valence: u8,
 }
 
@@ -58,23 +59,22 @@ pub struct Bond {
 // A set of bonds, a bit for each. Up to 128 bonds take no block of memory.
 type BondSet = SmallVec<u64, 2>;
 
-/// What is worked out for an atom. These lie together in one block of memory, since a catalogue has many molecules.
+/// Facts worked out for an atom. They are together in one block of memory, since a catalogue has many molecules.
 #[derive(Clone, Copy, Debug)]
 struct AtomFacts {
-    // where its neighbours begin among those of all atoms
+    // the place of its first neighbour among those of all atoms
     first_neighbour: u16,
-    // the length of its smallest ring, 0 where it is in none
+    // the length of its smallest ring, 0 if it is in no ring
     smallest_ring: u16,
     // the least atom of its component
     component: u16,
 }
 
-/// A molecule: atoms and bonds as they are meant, for each atom its neighbours and its component, and what lies on
-/// rings.
+/// A molecule: atoms and bonds as they are meant, the neighbours and the component of each atom, and its rings.
 ///
 /// It has at most `MOST_ATOMS` atoms and `MOST_BONDS` bonds, and at most `MOST_NEIGHBOURS` neighbours at an atom. No
-/// two bonds join the same atoms, and none joins an atom to itself. Atoms and bonds are named by their places, from 0.
-/// Contracts see it as its two lists.
+/// two bonds join the same atoms, and no bond joins an atom to itself. Atoms and bonds are named by their places, from
+/// 0. Contracts see it as its two lists.
 #[derive(Debug, Drop)]
 pub struct Mol {
     // first, since a search reads no more of most molecules
@@ -82,11 +82,11 @@ pub struct Mol {
     symbols: Symbols,
     atoms: Vec<Atom>,
     bonds: Vec<Bond>,
-    // what is worked out for each atom
+    // the facts of each atom
     facts: Vec<AtomFacts>,
-    // the neighbours of all atoms in turn: those of an atom end where the next one's begin
+    // the neighbours of all atoms in turn: those of an atom end at the first of the next atom
     neighbours: Vec<(u16, u16)>,
-    // which bonds are ring bonds
+    // the set of the ring bonds
     ring_bonds: BondSet,
 }
 
@@ -104,9 +104,9 @@ impl Model for Mol {
 }
 
 impl Mol {
-    /// The molecule of these atoms and bonds, of which it is known for each bond whether it is a ring bond, and for
-    /// each atom the length of its smallest ring, 0 where it is in none, and the least atom of its component. Fails
-    /// only for want of memory.
+    /// The molecule of these atoms and bonds. `bond_in_ring` is true for each ring bond. `atom_small` has the length of
+    /// each atom's smallest ring, 0 if it is in no ring, and `component` the least atom of its component. Fails only
+    /// for want of memory.
     pub fn make(
         alloc: Global,
         atoms: Vec<Atom>,
@@ -135,7 +135,7 @@ impl Mol {
         )
     }
 
-    /// The same, where the adjacency of its atoms and bonds is at hand.
+    /// As `make`, but with the adjacency of its atoms and bonds at hand.
     pub fn make_along(
         alloc: Global,
         atoms: Vec<Atom>,
@@ -181,8 +181,8 @@ impl Mol {
         &self.bonds
     }
 
-    /// Which of the first 64 atoms have a symbol, an atomic number and whether they are aromatic: a word with a bit for
-    /// each.
+    /// The atoms among the first 64 that have this atomic number and are aromatic or not, as `aromatic` says: a word
+    /// with a bit for each atom.
     #[inline(always)]
     pub fn symbol_word(&self, number: u8, aromatic: bool) -> u64
         ensures { (i : ℕ) → i < 64 → bit_at result i ≡ 1 ↔ HasSymbolAt self.now.atoms i number aromatic }
@@ -190,7 +190,7 @@ impl Mol {
         self.symbols.word(number, aromatic)
     }
 
-    /// The classes of the atoms: a word with a bit for each.
+    /// The classes that the atoms have: a word with a bit for each class.
     #[inline(always)]
     pub fn classes(&self) -> u64
         ensures { (c : ℕ) → c < 64 → bit_at result c ≡ 1 ↔ HasClass self.now.atoms c }
@@ -198,7 +198,7 @@ impl Mol {
         self.symbols.classes()
     }
 
-    /// How many atoms and bonds it has of each sort.
+    /// The number of its atoms and bonds of each sort.
     #[inline(always)]
     pub fn counts(&self) -> &SortCounts
         ensures { AreCounts self.now.atoms self.now.bonds result.now }
@@ -219,7 +219,7 @@ impl Mol {
         &self.neighbours[start..end]
     }
 
-    /// Whether the bond at a place is a ring bond: one of some simple cycle of at least three atoms.
+    /// True if the bond at a place is a ring bond: one of a simple cycle of at least three atoms.
     pub fn ring_bond(&self, bond: u16) -> bool
         requires { bond < length self.now.bonds }
         ensures { IsTrue result ↔ IsRingBond (ends_of self.now) bond }
@@ -227,7 +227,7 @@ impl Mol {
         has_bit(&self.ring_bonds, bond)
     }
 
-    /// The length of the smallest ring through the atom at a place; 0 where it is in none.
+    /// The length of the smallest ring through the atom at a place; 0 if it is in no ring.
     pub fn small(&self, atom: u16) -> u16
         requires { atom < length self.now.atoms }
         ensures { IsSmallestRing (ends_of self.now) atom result }
@@ -250,7 +250,7 @@ pub fn one_neighbour_list()
         → AreNeighbours ends a xs → AreNeighbours ends a ys → xs ≡ ys }
 {}
 
-/// A law: atoms have the same component exactly where a walk leads from one to the other.
+/// A law: atoms have the same component exactly if a walk leads from one to the other.
 pub fn same_component()
     ensures { (ends : Ends) (a b c d : ℕ) → IsComponent ends a c → IsComponent ends b d
         → (c ≡ d) ↔ Reaches ends a b }
@@ -263,7 +263,7 @@ fn bond_pairs<'a>(arena: &'a Bump, bonds: &[Bond]) -> Result<Vec<(u16, u16), &'a
     bonds.iter().map(|bond| (bond.a, bond.b)).collect(arena)
 }
 
-// Where the neighbours of the atom at a place end, among those of all atoms, of which there are `count`.
+// The place after the last neighbour of the atom at a place, among those of all atoms, of which there are `count`.
 fn neighbours_end(facts: &[AtomFacts], place: usize, count: usize) -> usize
     requires { place < length facts.now }
     ensures { result ≡ slice_index_or (map (λ f. f.first_neighbour) facts.now) (place + 1) count }
@@ -273,8 +273,8 @@ fn neighbours_end(facts: &[AtomFacts], place: usize, count: usize) -> usize
         .map_or(count, |next| usize::from(next.first_neighbour))
 }
 
-// The neighbours of all atoms in turn, and what is kept for each atom: where its neighbours begin, its smallest ring and
-// its component.
+// The neighbours of all atoms in turn, and the facts of each atom: the place of its first neighbour, its smallest ring
+// and its component.
 fn in_turn(
     alloc: Global,
     adjacency: &Adjacency<'_>,
@@ -302,7 +302,7 @@ fn in_turn(
     Ok((facts, pairs))
 }
 
-// Puts the steps behind the pairs, as pairs in ascending order.
+// Appends the steps to the pairs, as pairs in ascending order.
 fn push_sorted(pairs: &mut Vec<(u16, u16)>, steps: &[Step]) -> Result<(), AllocError>
     ensures { OnOk result (AreSortedBehind pairs.old.items steps.now pairs.new.items) }
 {

@@ -1,4 +1,4 @@
-//! Fingerprints: one bit for each feature that a structure may have; most structures that lack what a pattern needs
+//! Fingerprints: one bit for each feature that a structure may have. Most structures that lack a feature of a pattern
 //! are ruled out by comparing sixteen words (Daylight Theory Manual, chapter Fingerprints).
 ghost use Rattle.std.specs.Prelude.{◌≡◌, ◌↔◌, ◌⊎◌, ℕ, ◌+◌, ◌^◌, ◌<◌, ◌≤◌, true, length, slice_index, slice_set, bit_and, bit_or, EachIndex, IsTrue};
 ghost use Rattle.chem_core.specs.Bits.{HasBit, set_bits, shared_bits};
@@ -7,8 +7,8 @@ ghost use Rattle.chem_core.specs.Words.{bits_of};
 use crate::bits::{has_bit, set_bit};
 use std::marker::Model;
 
-/// A fingerprint: 1024 bits, numbered from 0, each set where a structure has one of the features that fall on it
-/// (Daylight Theory Manual, chapter Fingerprints). Contracts see it as a list of truth values.
+/// A fingerprint: 1024 bits, numbered from 0, each set if a structure has one of the features that fall on it (Daylight
+/// Theory Manual, chapter Fingerprints). Contracts see it as a list of truth values.
 #[derive(Clone, Debug, Drop)]
 pub struct Print {
     words: [u64; 16],
@@ -41,7 +41,7 @@ impl Print {
         set_bit(&mut self.words, bit);
     }
 
-    /// Whether a bit is set. No print has a bit of a number above 1023.
+    /// True if a bit is set. No print has a bit of a number above 1023.
     pub fn has(&self, bit: u16) -> bool
         ensures value { IsTrue result ↔ HasBit self.now bit }
         ensures length { length self.now ≡ 1024 }
@@ -56,7 +56,7 @@ impl Print {
         &self.words
     }
 
-    /// Whether every bit of `need` is set in this print.
+    /// True if every bit of `need` is set in this print.
     pub fn holds(&self, need: &Print) -> bool
         ensures value { IsTrue result ↔ ((bit : ℕ) → HasBit need.now bit → HasBit self.now bit) }
         ensures length { length self.now ≡ 1024 }
@@ -64,7 +64,7 @@ impl Print {
         covers(&self.words, &need.words)
     }
 
-    /// Whether no bit is set.
+    /// True if no bit is set.
     pub fn is_empty(&self) -> bool
         ensures value { IsTrue result ↔ ((bit : ℕ) → ¬ HasBit self.now bit) }
     {
@@ -79,7 +79,7 @@ impl Print {
         unite(&mut self.words, &other.words);
     }
 
-    /// How many bits are set.
+    /// The number of bits that are set.
     pub fn count(&self) -> u32
         ensures value { result ≡ set_bits self.now }
         ensures length { length self.now ≡ 1024 }
@@ -87,7 +87,7 @@ impl Print {
         self.count_shared(self)
     }
 
-    /// How many bits are set in this print and in another.
+    /// The number of bits that are set in this print and in another.
     pub fn count_shared(&self, other: &Print) -> u32
         ensures value { result ≡ shared_bits self.now other.now }
         ensures length { length self.now ≡ 1024 }
@@ -96,7 +96,7 @@ impl Print {
     }
 }
 
-// Whether each word of `have` has all bits of the word of `want` at its place. Compares four words at once.
+// True if each word of `have` has all bits of the word of `want` at its place. Compares four words at once.
 fn covers(have: &[u64; 16], want: &[u64; 16]) -> bool
     ensures value { IsTrue result
         ↔ EachIndex want.now (λ k.
@@ -111,7 +111,7 @@ fn covers(have: &[u64; 16], want: &[u64; 16]) -> bool
     true
 }
 
-// The bits that the four words of `have` from a place on lack, 0 where each has all bits of the word of `want`.
+// The bits that four words of `have`, from a place on, lack; 0 if each has all bits of the word of `want`.
 #[inline(always)]
 fn lacked_by_four(have: &[u64; 16], want: &[u64; 16], place: usize) -> u64
     requires { place + 4 ≤ 16 }
@@ -124,7 +124,7 @@ fn lacked_by_four(have: &[u64; 16], want: &[u64; 16], place: usize) -> u64
         | lacked(have[place + 3], want[place + 3])
 }
 
-// The bits of a word that another one lacks.
+// The bits of `want` that `have` lacks.
 #[inline(always)]
 fn lacked(have: u64, want: u64) -> u64
     ensures { result ≡ 0 ↔ bit_and have want ≡ want }
@@ -144,7 +144,7 @@ fn unite(words: &mut [u64], more: &[u64])
     }
 }
 
-// How many bits are in both of two words at the same place.
+// The number of bits that both words at the same place have.
 fn count_shared(left: &[u64], right: &[u64]) -> u32
     requires length { length left.now ≡ length right.now }
     requires few { length left.now ≤ 16 }

@@ -4,7 +4,7 @@ ghost use Rattle.chem_core.specs.Sketch.{order_of};
 
 use std::marker::Model;
 
-/// Where the hydrogens of a written atom come from.
+/// The source of the hydrogens of a written atom.
 #[derive(Clone, Copy, Debug, PartialEq, Eq)]
 pub enum Fill {
     /// As written, in brackets.
@@ -22,14 +22,14 @@ pub enum Fill {
 pub struct SketchAtom {
     /// The atomic number, 0 to 103; 0 is `*`.
     pub number: u8,
-    /// The mass number, at most 999; 0 where none is written.
+    /// The mass number, at most 999; 0 if none is written.
     pub isotope: u16,
     /// -15 to 15.
     pub charge: i8,
-    /// Whether the symbol is written in lower case.
+    /// True if the symbol is written in lower case.
     pub lower: bool,
     pub fill: Fill,
-    /// Hydrogens that are no atoms of the sketch, at most 27.
+    /// The number of hydrogens that are not atoms of the sketch, at most 27.
     pub hydrogens: u8,
     /// The atom's place as written, from 0.
     pub written: u16,
@@ -49,7 +49,7 @@ pub enum SketchKind {
 }
 
 impl SketchKind {
-    /// What the bond adds to the valence of each of its ends: 1 where no symbol or `:` is written.
+    /// The bond's share in the valence of each of its ends, unless it is aromatic: 1 if no symbol or `:` is written.
     pub fn order(self) -> u8
         ensures value { result ≡ order_of self }
         ensures few { result ≤ 4 }

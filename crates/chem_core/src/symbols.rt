@@ -1,5 +1,5 @@
 //! Symbols of atoms: the atomic number, and whether the atom is aromatic. Those of the first 64 atoms of a molecule are
-//! bytes one behind the other, so that one comparison finds all atoms of a symbol.
+//! bytes one after another, so that one comparison finds all atoms of a symbol.
 ghost use Rattle.std.specs.Prelude.{◌≡◌, ◌↔◌, ◌<◌, ◌≤◌, ℕ, All, List, slice_get, slice_index};
 ghost use Rattle.std.specs.Int.{bit_at};
 ghost use Rattle.chem_core.specs.Inside.{AreSymbols, code, code_in};
@@ -11,25 +11,25 @@ ghost use Rattle.chem_core.specs.declared.symbols.TheConstants.{MOST_NUMBER};
 use crate::mol::Atom;
 use std::simd::prelude::*;
 
-// How many atoms a word has bits for.
+// The number of atoms that a word has bits for.
 const WORD_ATOMS: usize = 64;
 
-// What stands behind the last atom.
+// The byte of each place after the last atom.
 const NO_SYMBOL: u8 = 255;
 
 // The greatest atomic number.
 const MOST_NUMBER: u8 = 103;
 
-/// The symbols of the first 64 atoms, each as a byte, and the classes of all.
+/// The symbols of the first 64 atoms, each as a byte, and the classes of all atoms.
 #[derive(Clone, Copy, Debug)]
 pub struct Symbols {
-    // first, since they are asked first
+    // first, since they are read first
     classes: u64,
     codes: [u8; 64],
 }
 
 impl Symbols {
-    /// Those of these atoms.
+    /// The symbols of these atoms.
     pub fn of(atoms: &[Atom]) -> Symbols
         requires { All IsAtom atoms.now }
         ensures { AreSymbols atoms.now result }
@@ -40,7 +40,7 @@ impl Symbols {
         }
     }
 
-    /// Which of the first 64 atoms have a symbol: a word with a bit for each.
+    /// The atoms among the first 64 that have a symbol: a word with a bit for each atom.
     #[inline(always)]
     pub fn word(&self, number: u8, aromatic: bool) -> u64
         ensures { (atoms : List Atom) → All IsAtom atoms → AreSymbols atoms self.now
@@ -52,7 +52,7 @@ impl Symbols {
         equal_to(self.codes, code(number, aromatic))
     }
 
-    /// The classes of the atoms: a word with a bit for each.
+    /// The classes that the atoms have: a word with a bit for each class.
     #[inline(always)]
     pub fn classes(&self) -> u64
         ensures { result ≡ self.now.classes }
@@ -73,7 +73,7 @@ fn codes_of(atoms: &[Atom]) -> [u8; 64]
     codes
 }
 
-// A bit for each class of an atom.
+// The classes that the atoms have: a word with a bit for each class.
 fn classes_of(atoms: &[Atom]) -> u64
     ensures { (c : ℕ) → c < 64 → bit_at result c ≡ 1 ↔ HasClass atoms.now c }
 {
@@ -84,7 +84,7 @@ fn classes_of(atoms: &[Atom]) -> u64
     classes
 }
 
-// A bit for each byte that is equal to another one.
+// A bit for each place in `codes` with this byte.
 #[inline(always)]
 fn equal_to(codes: [u8; 64], byte: u8) -> u64
     ensures { (i : ℕ) → i < 64 → bit_at result i ≡ 1 ↔ slice_index codes i ≡ byte }

@@ -7,7 +7,7 @@ use Rattle.std.specs.List.{flat_map}
 abbrev pub next : ℕ → ℕ
 next x = 48271 * x % 2147483647
 
--- the number so many places after a number
+-- the number that many places after a number
 abbrev pub later : ℕ → ℕ → ℕ
 later zero x = x
 later (suc n) x = later n (next x)
@@ -19,12 +19,12 @@ fragments = codes "C" ∷ codes "N" ∷ codes "O" ∷ codes "C(=O)" ∷ codes "C
 abbrev pub patterns : List (List ℕ)
 patterns = codes "C=O" ∷ codes "c1ccccc1" ∷ codes "[N;H1]" ∷ codes "[$(C(=O)N)]" ∷ codes "F" ∷ []
 
--- so many fragments, picked by the numbers after x
+-- that many fragments, picked by the numbers after x
 unfoldable pub picked : ℕ → ℕ → List ℕ
 picked zero x = []
 picked (suc n) x = slice_index_or fragments (next x % 8) [] ++ picked n (next x)
 
--- how many fragments, by the number after x
+-- the number of fragments, by the number after x
 abbrev pub fragment_count : ℕ → ℕ
 fragment_count x = 2 + next x % 6
 
@@ -36,7 +36,7 @@ structure_text x = codes "C" ++ picked (fragment_count x) (next x)
 abbrev pub after_structure : ℕ → ℕ
 after_structure x = later (fragment_count x) (next x)
 
--- so many registrations from an identifier on, by the numbers after x
+-- that many registrations from an identifier on, by the numbers after x
 unfoldable pub registrations : ℕ → ℕ → ℕ → List ℕ
 registrations zero id x = []
 registrations (suc n) id x = codes "register " ++ decimal id ++ codes " " ++ structure_text x ++ 10

@@ -3,7 +3,7 @@ use Rattle.std.specs.Prelude.{ℕ, ◌==◌, ◌||◌, Bool, List, [], ◌∷◌
 use Rattle.std.specs.List.{slice_split, starts_with, after_first}
 use Rattle.chem_gen.specs.Script.{patterns}
 
--- what stands between line ends; after the last of them stands an empty line
+-- the texts between line ends; after the last of them is an empty line
 abbrev pub lines_of : List ℕ → List (List ℕ)
 lines_of text = slice_split (λ b. b == 10) text
 
@@ -18,7 +18,7 @@ last_version lines = fold (λ version line. if begins line (codes "ok ") then dr
 abbrev pub is_ending : List ℕ → Bool
 is_ending line = begins line (codes "end at ") || begins line (codes "fault memory")
 
--- what an ending says of the search: `tried T hits N`, or `fault memory`
+-- the outcome in an ending: `tried T hits N`, or `fault memory`
 abbrev pub outcome : List ℕ → List ℕ
 outcome line = if begins line (codes "end at ") then after_first (λ b. b == 32) (drop 7 line) else line
 
@@ -33,7 +33,7 @@ outcomes (pattern ∷ more) (ending ∷ endings) = codes "search " ++ pattern ++
 abbrev pub endings_in : List (List ℕ) → List (List ℕ)
 endings_in lines = filter is_ending lines
 
--- The summary of a transcript. Its first lines, as many as the count, answer the registrations, one each.
+-- The summary of a transcript. Its first `count` lines answer the registrations, one each.
 abbrev pub summary_of : ℕ → ℕ → List ℕ → List ℕ
 summary_of seed count transcript =
     codes "bulk seed " ++ decimal seed ++ codes " count " ++ decimal count

@@ -6,7 +6,7 @@ use crate::numbers::Numbers;
 use chem_text::push_decimal;
 use std::alloc::{AllocError, Global};
 
-/// How many patterns are searched for.
+/// The number of patterns.
 pub const PATTERNS: usize = 5;
 
 /// The script: for each identifier from 1 to the count a registration, of a structure that follows from the seed, and
@@ -23,7 +23,7 @@ pub fn script(alloc: Global, seed: u32, count: u32) -> Result<Vec<u8>, AllocErro
     Ok(out)
 }
 
-/// What is searched for, in its order.
+/// The patterns of the searches, in their order.
 pub fn pattern(place: usize) -> &'static [u8]
     requires { place < PATTERNS }
     ensures { result.now ≡ slice_index_or patterns place [] }
@@ -37,7 +37,7 @@ pub fn pattern(place: usize) -> &'static [u8]
     }
 }
 
-// What a structure is made of.
+// The fragments of a structure.
 fn fragment(place: u32) -> &'static [u8]
     requires { place < 8 }
     ensures { result.now ≡ slice_index_or fragments place [] }

@@ -9,8 +9,8 @@ use chem_text::push_decimal;
 use memchr::memchr;
 use std::alloc::{AllocError, Global};
 
-/// The summary of a transcript of the script of that seed and count: both, the last version, and for each search how it
-/// ended. Fails only for want of memory.
+/// The summary of a transcript of the script of that seed and count: both, the last version, and the end of each
+/// search. Fails only for want of memory.
 pub fn summary(
     alloc: Global,
     seed: u32,
@@ -58,7 +58,7 @@ fn push_outcome(out: &mut Vec<u8>, pattern: &[u8], ending: &[u8]) -> Result<(), 
     Ok(())
 }
 
-// What an ending says of its search.
+// The outcome of a search, in its ending.
 fn outcome_of(ending: &[u8]) -> &[u8]
     ensures { result.now ≡ outcome ending.now }
 {
@@ -84,7 +84,7 @@ fn version(text: &[u8]) -> &[u8]
     version
 }
 
-// What stands after so many lines.
+// The text after `count` lines.
 fn after_lines(text: &[u8], count: u32) -> &[u8]
     ensures { endings_in (lines_of result.now) ≡ endings_in (drop count (lines_of text.now)) }
 {
@@ -95,7 +95,7 @@ fn after_lines(text: &[u8], count: u32) -> &[u8]
     rest
 }
 
-// The first line that ends a search, and what stands after it.
+// The first line that ends a search, and the text after it.
 fn next_ending(text: &[u8]) -> Option<(&[u8], &[u8])>
     ensures { MatchOption result (endings_in (lines_of text.now) ≡ [])
         (λ r. endings_in (lines_of text.now) ≡ r.0.now ∷ endings_in (lines_of r.1.now)) }
@@ -117,7 +117,7 @@ fn is_search_end(line: &[u8]) -> bool
     line.starts_with(b"end at ") || line.starts_with(b"fault memory")
 }
 
-// What stands after the word, if the line begins with it.
+// The rest of the line after the word, if the line begins with it.
 fn after_word<'a>(line: &'a [u8], word: &[u8]) -> Option<&'a [u8]>
     ensures { MatchOption result (begins line.now word.now ≡ false)
         (λ rest. (begins line.now word.now ≡ true) × (rest.now ≡ drop (length word.now) line.now)) }
@@ -129,7 +129,7 @@ fn after_word<'a>(line: &'a [u8], word: &[u8]) -> Option<&'a [u8]>
     }
 }
 
-// The bytes before the first `byte` and those after it; all of them and none if it does not occur.
+// The bytes before the first `byte` and those after it; all bytes and no byte if it does not occur.
 fn cut(text: &[u8], byte: u8) -> (&[u8], &[u8])
     ensures before { result.0.now ≡ before_first (λ b. b == byte) text.now }
     ensures after { result.1.now ≡ after_first (λ b. b == byte) text.now }

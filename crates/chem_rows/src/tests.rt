@@ -40,13 +40,13 @@ const MEM: &[&str] = &["mem"];
 // A store of one commit.
 const ONE_COMMIT: &[u8] = b"ZCHEMDB1Z\x09\0\0\0\x01\x01\0\0\0\x01CCO\0";
 
-// What a script is about, words, and the script with its replies, as `check` has them.
+// The subject of a script, words, and the script with its replies, as for `check`.
 type Script = (&'static str, &'static [&'static str], &'static str);
 
-// A text that stands once for each number from a first to a last one. `@` in it is the number.
+// A text, repeated for each number from a first to a last one. `@` in it is the number.
 type Piece = (&'static [u8], u32, u32);
 
-// What a script is about, words, the pieces of the script, and those of its replies.
+// The subject of a script, words, the pieces of the script, and those of its replies.
 type Made = (
     &'static str,
     &'static [&'static str],
@@ -105,7 +105,7 @@ fn scripts_of_pieces(rt: HostRuntime) -> Result<(), Fail> {
     Ok(())
 }
 
-// Whether a script of pieces has its replies, and the status 0.
+// True if a script of pieces has its replies, and the status 0.
 fn made_answers<R: Threads + Wait + Sync>(
     rt: &R,
     alloc: Global,
@@ -148,10 +148,10 @@ fn push_numbered(
     Ok(())
 }
 
-// What a call left of its one end.
+// The outcome of a call of one end.
 type Answer = Outcome<MemDisk, MemSource, MemSink>;
 
-// How a script is given, and which takes and puts fail, by their numbers from 0 on.
+// The pieces in which a script is given, and the takes and puts that fail, by their numbers from 0 on.
 #[derive(Clone, Copy)]
 struct Ways<'a> {
     piece: usize,
@@ -166,7 +166,7 @@ const PLAIN: Ways<'static> = Ways {
     puts: &[],
 };
 
-// What the words leave over empty disks; each of their ends reads this script.
+// The outcome of the words over empty disks; each of their ends reads this script.
 fn call<R: Threads + Wait + Sync>(
     rt: &R,
     alloc: Global,
@@ -226,12 +226,12 @@ fn disk_of(alloc: Global, bytes: &[u8]) -> Result<MemDisk, AllocError> {
     MemDisk::of(alloc, bytes.to_vec(alloc)?)
 }
 
-// Whether an answer has these replies, and these bytes on its two disks.
+// True if an answer has these replies, and these bytes on its two disks.
 fn has_left(answer: &Answer, replies: &str, left: (&[u8], &[u8])) -> bool {
     put_by(answer) == replies.as_bytes() && answer.a.bytes() == left.0 && answer.b.bytes() == left.1
 }
 
-// Whether `run` of a script over two disks with these bytes ends with a status and a place of damage, has these
+// True if `run` of a script over two disks with these bytes ends with a status and a place of damage. Then it has these
 // replies, and leaves these bytes on the disks.
 fn run_leaves<R: Threads + Wait + Sync>(
     rt: &R,
@@ -247,7 +247,7 @@ fn run_leaves<R: Threads + Wait + Sync>(
     Ok((answer.status, answer.place) == end && has_left(&answer, replies, left))
 }
 
-// How many ends the words have. Where they ask for nothing, it is one.
+// The number of ends of the words; one, if they are refused.
 fn ends_of(alloc: Global, words: &[&str]) -> Result<u32, AllocError>
     ensures { IfOk result (λ count. Asks (texts words.now)
         → (plan : ThePlan) × AsksFor (texts words.now) plan × (count ≡ plan.ends)) }
@@ -259,7 +259,7 @@ fn ends_of(alloc: Global, words: &[&str]) -> Result<u32, AllocError>
     }
 }
 
-// This many ends, with these scripts, and those behind them with none.
+// This many ends, with these scripts, and later ones without a script.
 fn ends(
     alloc: Global,
     count: u32,
@@ -284,7 +284,7 @@ fn ends(
     Ok(ends)
 }
 
-// How a session over an empty store in memory ends that takes no more bytes than this.
+// The end of a session over an empty store in memory that takes no more bytes than this.
 fn session_within<R: Threads + Sync, I: Source, O: Sink>(
     rt: &R,
     alloc: Global,
@@ -301,7 +301,7 @@ fn session_within<R: Threads + Sync, I: Source, O: Sink>(
     session(rt, alloc, &mut store, source, sink, &settings, &NoMeter)
 }
 
-// What was put.
+// The bytes that were put.
 fn put_by<D: Drop>(answer: &Outcome<D, MemSource, MemSink>) -> &[u8] {
     match answer.ends.first() {
         Some(end) => end.sink.bytes(),
@@ -330,8 +330,8 @@ fn answers<R: Abort + Threads + Wait + Sync>(
     Ok(())
 }
 
-// A script over words has its replies, and the status is 0. Behind `> ` stands a line of the script, behind `< ` a line
-// of the replies, and behind `# ` what a reader is told.
+// A script over words has its replies, and the status is 0. A line of the script follows `> `, a line of the replies
+// follows `< `, and a remark for readers follows `# `.
 fn check<R: Abort + Threads + Wait + Sync>(
     rt: &R,
     alloc: Global,

@@ -1,4 +1,4 @@
--- For callers: what a crash leaves of a store on two disks at a moment of a step of a run.
+-- For callers: the remains of a store on two disks after a crash at a moment of a step of a run.
 use Rattle.std.specs.Prelude.{◌≡◌, ◌⊎◌, ◌++◌, ◌+◌, ℕ, List, [], ◌∷◌, Some}
 use Rattle.store_disk.specs.Loads.{OpensTo}
 use Rattle.store_machine.specs.History.{grown, rebase}
@@ -9,8 +9,8 @@ use Rattle.store_machine.specs.declared.machine.Event.TheVariants.{Commit, Compa
 use Rattle.store_machine.specs.declared.machine.State.{State}
 use Rattle.store_machine.specs.declared.machine.Step.{Step}
 
--- nothing, or one commit that was not acknowledged: the one in doubt before the step, or the one that the step asks for
--- and that may be added
+-- nothing, or one commit that was not acknowledged: the one in doubt before the step, or one that the step asks for and
+-- may add
 abbrev pub IsAtMostOne : Step → List Change → Type 0
 IsAtMostOne x more = (more ≡ []) ⊎ ((c : Change) × (more ≡ c ∷ [])
     × ((x.before.doubt ≡ Some c) ⊎ ((x.event ≡ Commit c) × MayAdd x.before c)))
@@ -24,8 +24,8 @@ abbrev pub IsBasedAt : Step → List Change → ℕ → ℕ → Type 0
 IsBasedAt x more base generation = ((base ≡ x.before.base) × (generation ≡ x.before.generation))
     ⊎ (MayFinish x base × (generation ≡ x.before.generation + 1) × (more ≡ []))
 
--- The two images open to the history from before the run, each commit that was acknowledged by the steps before this
--- one, in order, and after them at most one that was not; all this from the base on
+-- The two images open to the history from before the run, and then the commits that earlier steps acknowledged, in
+-- order. At most one more follows; all this from the base on
 pub record ShowsAt (first : State) (before : List Step) (x : Step) (p q : List ℕ) : Type 0 where
   pub more : List Change
   pub one : IsAtMostOne x more

@@ -1,4 +1,4 @@
--- For private clauses alone: what doing a plan leaves, by its command.
+-- For private clauses alone: the outcome of a plan, by its command.
 use Rattle.std.specs.Prelude.{◌≡◌, ◌≢◌, ◌⊎◌, ◌≤◌, ℕ, List, [], length, map, Option}
 use Rattle.std.specs.List.{AllZip}
 use Rattle.disk_edge.specs.Disk.{DiskModel}
@@ -17,7 +17,7 @@ use Rattle.chem_shell.specs.declared.request.Verb.{Verb}
 use Rattle.chem_shell.specs.declared.request.Verb.TheVariants.{Mem, Init, Run, Serve, Bulk, Drill}
 use Rattle.chem_shell.specs.declared.status.TheConstants.{USAGE}
 
--- how many ends a command has
+-- the number of ends of a command
 abbrev pub HasEnds : Verb → ℕ → Type 0
 HasEnds Init count = count ≡ 0
 HasEnds Serve count = (1 ≤ count) × (count ≤ MOST_ENDS)
@@ -28,7 +28,7 @@ HasEnds Drill count = count ≡ 1
 
 module _ {D S K : Type 0} (model : DiskModel D) (left : S → Option (List ℕ)) (source_faults : S → ℕ)
     (written : K → Option (List ℕ)) (sink_faults : K → ℕ) where
-  -- what each command leaves of the ends and of the disks
+  -- the ends and disks after each command
   abbrev pub Leaves : Verb → Plan → Disks D → List (End S K) → Outcome D S K → Type 0
   Leaves Mem plan disks ends r = (disks_of r ≡ disks) × AllZip (ServesMem plan left written) ends r.ends.items
   Leaves Init plan disks ends r = (r.ends.items ≡ []) × Creates model disks (disks_of r) r.status

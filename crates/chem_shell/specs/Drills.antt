@@ -1,4 +1,4 @@
--- For callers: what `drill` leaves of the end that it serves.
+-- For callers: the end after `drill`.
 use Rattle.std.specs.Prelude.{◌≡◌, ℕ, Option, List, [], IfSome}
 use Rattle.drill_run.specs.Drilled.{IsAllOfTaken, IsDialogue, IsDialoguePrefix, events_of}
 use Rattle.drill_run.specs.Truths.{AreAllTold}
@@ -16,15 +16,15 @@ use Rattle.chem_shell.specs.declared.request.Plan.{Plan}
 use Rattle.chem_shell.specs.declared.settings.TheConstants.{INPUT_LIMIT}
 
 -- The calls are all events of a run, with their replies, crashes and openings too. It begins with an empty store, which
--- may have so many commits
+-- may have `commits` commits
 pub record AreOfDrill (commits : ℕ) (calls : Calls) : Type 0 where
   pub steps : List Step
   pub last : State
   pub run : IsRun (empty commits) steps last
   pub all : events_of steps ≡ calls
 
--- The text is what the lines of the script are answered, all of them, where these calls are made for them; pages have a
--- size. Each disk fault among the calls is caused by lines `stop` or `fail` before it
+-- The text is the replies to all lines of the script, if these calls are made for them; pages have a size. Each disk
+-- fault among the calls is caused by lines `stop` or `fail` before it
 abbrev pub IsDrillBy : ℕ → List ℕ → Calls → List ℕ → Type 0
 IsDrillBy page script calls text = IsDialogue page (lines_of script) [] calls text
 
@@ -32,21 +32,20 @@ IsDrillBy page script calls text = IsDialogue page (lines_of script) [] calls te
 abbrev pub IsDrillPrefixBy : ℕ → List ℕ → Calls → List ℕ → Type 0
 IsDrillPrefixBy page script calls text = IsDialoguePrefix page (lines_of script) calls text
 
--- Such a text by the calls of a run from a state: each session's searches, cursors, lookups and watches in it that came
--- to their end told exactly what the history has, in each part of the drill
+-- Such a text by the calls of a run from a state. In each part of the drill, each session's searches, cursors, lookups
+-- and watches that ended reported exactly the history
 abbrev pub IsTrueDrill : State → List Step → ℕ → List ℕ → Calls → List ℕ → Type 0
 IsTrueDrill first steps page script calls text =
     (drill : IsDrillBy page script calls text) × AreAllTold first steps page drill.exchanges
 
--- the same of a beginning, for the lines that were answered
+-- as `IsTrueDrill`, of a prefix: for the lines that were answered
 abbrev pub IsTrueDrillPrefix : State → List Step → ℕ → List ℕ → Calls → List ℕ → Type 0
 IsTrueDrillPrefix first steps page script calls text =
     (drill : IsDrillPrefixBy page script calls text) × AreAllTold first steps page drill.exchanges
 
--- What `drill` leaves of an end: what was written is a prefix of a drill of the source's bytes, and true by the run.
--- Where the status is 0 it is all of one, and the source was read to its end. Where the source failed or its bytes are
--- too many, exactly the lines that are whole in the bytes that were taken were answered. No more than the limit is ever
--- taken
+-- The end after `drill`: the output is a prefix of a drill of the source's bytes, and true by the run. If the status is
+-- 0 it is all of one, and the source was read to its end. If the source failed or its bytes are too many, exactly the
+-- whole lines of its taken bytes were answered. No more than the limit is ever taken
 pub record ServesDrill {S K : Type 0} (plan : Plan) (left : S → Option (List ℕ)) (written : K → Option (List ℕ))
     (old new : End S K) : Type 0 where
   pub status : IsEndStatus new.status

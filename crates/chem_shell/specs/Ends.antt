@@ -1,5 +1,5 @@
--- For callers: what is left of the ends that are served. What a source has left and a sink was given are told by
--- functions.
+-- For callers: the ends after they are served. Functions give the bytes that are left in a source and written to a
+-- sink.
 use Rattle.std.specs.Prelude.{◌≡◌, ℕ, Option, List, IfSome}
 use Rattle.io_edge.specs.Faults.{Rose}
 use Rattle.session_acts.specs.Cursors.{Calls}
@@ -17,10 +17,10 @@ use Rattle.chem_shell.specs.Summed.{IsSummary, IsSummaryPrefix, WritesNothing}
 abbrev pub with_status : {S K : Type 0} → ℕ → End S K → End S K
 with_status status end = record end { status = status }
 
--- What a session leaves of an end, by its calls and the history of their run: what was written is a prefix of a
--- transcript of the source's bytes, by pages of a size. Where the status is 0 it is all of one, and the source was read
--- to its end. Where the source failed or its bytes are too many, exactly the requests that are whole in the bytes that
--- were taken were answered. No more than the limit is ever taken
+-- An end after a session, by its calls and the history of their run. The output is a prefix of a transcript of the
+-- source's bytes, by pages of a size. If the status is 0 it is all of one, and the source was read to its end. If the
+-- source failed or its bytes are too many, exactly the whole requests of its taken bytes were answered. No more than
+-- the limit is ever taken
 pub record ServesScript {S K : Type 0} (left : S → Option (List ℕ)) (written : K → Option (List ℕ)) (page : ℕ)
     (calls : Calls) (history : History) (old new : End S K) : Type 0 where
   pub status : IsEndStatus new.status
@@ -33,14 +33,14 @@ pub record ServesScript {S K : Type 0} (left : S → Option (List ℕ)) (written
   pub done : new.status ≡ DONE → TakesAll (left old.source) (left new.source)
   pub within : TakesAtMost (left old.source) (left new.source) INPUT_LIMIT
 
--- what `mem` leaves of an end
+-- the end after `mem`
 pub record ServesMem {S K : Type 0} (plan : Plan) (left : S → Option (List ℕ)) (written : K → Option (List ℕ))
     (old new : End S K) : Type 0 where
   pub calls : Calls
   pub run : AreOfRun plan.commits calls
   pub script : ServesScript left written plan.page calls run.last.history old new
 
--- what `bulk` leaves of an end: nothing is taken, and the summary was put, a prefix of it, or nothing
+-- the end after `bulk`: nothing is taken, and the summary was put, a prefix of it, or nothing
 pub record ServesBulk {S K : Type 0} (plan : Plan) (written : K → Option (List ℕ)) (old new : End S K) : Type 0 where
   pub status : IsSinkStatus new.status
   pub source : new.source ≡ old.source
@@ -48,8 +48,7 @@ pub record ServesBulk {S K : Type 0} (plan : Plan) (written : K → Option (List
   pub prefix : new.status ≡ SINK_FAULT → Writes (written old.sink) (written new.sink) (IsSummaryPrefix plan)
   pub nothing : new.status ≡ NO_MEMORY → WritesNothing (written old.sink) (written new.sink)
 
--- The causes of the statuses that come of an end: its source or its sink counted a fault, or an input of the limit's
--- length was taken
+-- The causes of an end's statuses: its source or its sink counted a fault, or an input of the limit's length was taken
 pub record HasEndCauses {S K : Type 0} (left : S → Option (List ℕ)) (source_faults : S → ℕ) (sink_faults : K → ℕ)
     (old new : End S K) : Type 0 where
   pub source_fault : new.status ≡ SOURCE_FAULT → Rose (source_faults old.source) (source_faults new.source)

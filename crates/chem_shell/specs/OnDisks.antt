@@ -1,4 +1,4 @@
--- For callers: what `init`, `run` and `serve` leave of the disks.
+-- For callers: the disks after `init`, `run` and `serve`.
 use Rattle.std.specs.Prelude.{◌≡◌, ◌≢◌, ◌⊎◌, ◌++◌, ◌^◌, ◌≤◌, ℕ, suc, All, IfSome, List, [], ◌∷◌, length, Option, true}
 use Rattle.std.specs.List.{AllByRecursion}
 use Rattle.disk_edge.specs.Disk.{DiskModel, Exactly, IfTold}
@@ -30,9 +30,9 @@ use Rattle.serve_ends.specs.declared.end.End.{End}
 use Rattle.serve_ends.specs.declared.status.TheConstants.{DONE, NO_MEMORY, WORN}
 use Rattle.chem_shell.specs.declared.status.TheConstants.{DISK_FAULT, NOT_EMPTY}
 
--- `init`: where it is done, both disks were empty, `a` has the empty store, and no crash leaves a byte on `b`. Where a
--- disk has bytes both are as before, and `a` is where memory ran out; `b` is only read and synced in any case. A disk
--- fault leaves `a` as it was where either disk has bytes
+-- `init`: if it is done, both disks were empty, `a` has the empty store, and no crash leaves a byte on `b`. If a disk
+-- has bytes, both are as before. If memory ran out, `a` is as before. `b` is only read and synced in any case. A disk
+-- fault leaves `a` as it was if either disk has bytes
 pub record Creates {D : Type 0} (model : DiskModel D) (old new : Disks D) (status : ℕ) : Type 0 where
   pub status_is : IsCreationStatus status
   pub done : status ≡ DONE → IfTold (model.content old.a) (λ l. (l ≡ []) × IsEmptyJournal model new.a)
@@ -44,13 +44,13 @@ pub record Creates {D : Type 0} (model : DiskModel D) (old new : Disks D) (statu
   pub kept : status ≡ DISK_FAULT → IfTold (model.content old.a) (λ l. 1 ≤ length l → Stays model old.a new.a)
   pub kept_b : status ≡ DISK_FAULT → IfTold (model.content old.b) (λ l. 1 ≤ length l → Stays model old.a new.a)
 
--- The calls are all of a run without a crash that begins with the history of the disks. The steps lie one after the
--- other on the disks' clocks, from the times at which the store was loaded to now. A crash while it was loaded left
--- images that the disks had. One at a moment of a step leaves of each disk an image of a moment of that step; each two
--- open to each commit that was acknowledged before it, in order, and at most one more. Now each two images open to the
--- run's history, or to this and the commit in doubt, or to a copy whose finish is in doubt, and never to a copy that
--- runs. The counts of faults in the run's states are the disks'; only a commit and a copy call a disk, and are answered
--- that one failed only where one counted a fault
+-- The calls are all calls of a run without a crash that begins with the history of the disks. The steps lie one after
+-- the other on the disks' clocks, from the time of the loading to now. A crash during the loading left images that the
+-- disks had. One at a moment of a step leaves of each disk an image of a moment of that step. Each two of these open to
+-- each commit that was acknowledged before it, in order, and at most one more. Now each two images open to the run's
+-- history, or to this and the commit in doubt, or to a copy whose finish is in doubt. They never open to a running
+-- copy. The counts of faults in the run's states are the disks'. Only a commit and a copy call a disk; their calls fail
+-- only if a disk counted a fault
 pub record AreOnDisks {D : Type 0} (model : DiskModel D) (commits : ℕ) (old new : Disks D) (calls : Calls) : Type 0
   where
     pub first : State
@@ -88,8 +88,8 @@ pub record RunsOn {D S K : Type 0} (model : DiskModel D) (left : S → Option (L
   pub on : AreOnDisks model plan.commits disks disks' calls
   pub script : ServesScript left written plan.page calls on.last.history old new
 
--- What a session at a desk leaves of an end, by its calls and the history of their run. Where the hall had no turns
--- left, the first replies of a transcript were written, and from the call that was not answered on nothing was
+-- An end after a session at a desk, by its calls and the history of their run. If the hall had no turns left, the first
+-- replies of a transcript were written, and nothing from the first unanswered call on
 pub record ServesAtDesk {S K : Type 0} (left : S → Option (List ℕ)) (written : K → Option (List ℕ)) (page : ℕ)
     (calls : Calls) (history : History) (old new : End S K) : Type 0 where
   pub served : new.status ≢ WORN → ServesScript left written page calls history old new
@@ -106,8 +106,8 @@ AreAtDesks left written page steps history owner (old ∷ olds) (new ∷ news) =
     ServesAtDesk left written page (calls_of (has (owner ∷ [])) steps) history old new
     × AreAtDesks left written page steps history (suc owner) olds news
 
--- `serve` after the store was loaded: there is one run on the disks, and each end has the steps of one owner, from 1
--- on; no step is of another. An end is worn only where the run has a step for each of the hall's turns
+-- `serve` after the store was loaded: there is one run on the disks. Each end has the steps of one owner, from 1 on,
+-- and each step has an owner among these. An end is worn only if the run has a step for each of the hall's turns
 pub record ServesOn {D S K : Type 0} (model : DiskModel D) (left : S → Option (List ℕ))
     (written : K → Option (List ℕ)) (plan : Plan) (disks disks' : Disks D) (old new : List (End S K)) : Type 0 where
   pub calls : Calls
@@ -116,13 +116,13 @@ pub record ServesOn {D S K : Type 0} (model : DiskModel D) (left : S → Option 
   pub owners : All (λ x. (1 ≤ x.owner) × (x.owner ≤ length old)) on.steps
   pub worn : All (λ (end : End S K). end.status ≡ WORN → length on.steps ≡ 2 ^ 63) new
 
--- `run` where the store was not loaded: nothing was taken or put, and the disks were only read
+-- `run` if the store was not loaded: nothing was taken or put, and the disks were only read
 pub record IsRefused {D S K : Type 0} (model : DiskModel D) (disks disks' : Disks D) (old new : End S K) : Type 0 where
   pub status : IsLoadStatus new.status
   pub end : new ≡ with_status new.status old
   pub disk_a : Narrows model disks.a disks'.a
   pub disk_b : Narrows model disks.b disks'.b
 
--- an end of `serve` where the store was not loaded: the same, and its status is this one
+-- an end of `serve` if the store was not loaded: as for `run`, with this status
 abbrev pub IsRefusedAs : {D S K : Type 0} → DiskModel D → Disks D → Disks D → ℕ → End S K → End S K → Type 0
 IsRefusedAs model disks disks' status old new = IsRefused model disks disks' old new × (new.status ≡ status)

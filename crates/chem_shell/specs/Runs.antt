@@ -19,13 +19,14 @@ abbrev pub IsTranscriptBy : ℕ → List ℕ → Calls → History → List ℕ 
 IsTranscriptBy page script calls history text =
     session.IsTranscript page (lines_of script) calls text × IsTrueTranscript history page (lines_of script) calls text
 
--- the same of a prefix of one
+-- as `IsTranscriptBy`, of a prefix
 abbrev pub IsTranscriptPrefixBy : ℕ → List ℕ → Calls → History → List ℕ → Type 0
 IsTranscriptPrefixBy page script calls history text =
     session.IsTranscriptPrefix page (lines_of script) calls text
     × IsTrueBeginning history page (lines_of script) calls text
 
--- The calls are all of a run without a crash, of a store that begins empty and may have so many commits. No disk fails
+-- The calls are all calls of a run without a crash, of a store that begins empty and may have `commits` commits. No
+-- disk fails
 pub record AreOfRun (commits : ℕ) (calls : Calls) : Type 0 where
   pub steps : List Step
   pub last : State

@@ -1,4 +1,4 @@
--- For private clauses alone: what a session put of a script, by how it ended; and what one text put.
+-- For private clauses alone: the output of a session for a script, by how it ended; and the output of one text.
 use Rattle.std.specs.Prelude.{◌≡◌, ℕ, List, [], Option, IfSome}
 use Rattle.std.specs.Io.KnownBytes.{Appends}
 use Rattle.io_edge.specs.Faults.{Rose}

@@ -9,7 +9,7 @@ IsEndStatus status =
     (status ≡ DONE) ⊎ ((status ≡ SOURCE_FAULT) ⊎ ((status ≡ SINK_FAULT)
     ⊎ ((status ≡ NO_MEMORY) ⊎ (status ≡ INPUT_TOO_LONG))))
 
--- the same of an end from which nothing is taken
+-- as `IsEndStatus`, of an end from which nothing is taken
 abbrev pub IsSinkStatus : ℕ → Type 0
 IsSinkStatus status = (status ≡ DONE) ⊎ ((status ≡ SINK_FAULT) ⊎ (status ≡ NO_MEMORY))
 

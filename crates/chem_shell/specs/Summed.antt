@@ -1,4 +1,4 @@
--- For callers: what `bulk` wrote, where the sink tells what was put.
+-- For callers: the output of `bulk`, if the bytes that were put are known.
 use Rattle.std.specs.Prelude.{◌≡◌, ℕ, List, [], Option}
 use Rattle.chem_gen.specs.Script.{script_of}
 use Rattle.chem_gen.specs.Summary.{summary_of}

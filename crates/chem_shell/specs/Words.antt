@@ -1,4 +1,4 @@
--- For callers: what the words of the command line ask for.
+-- For callers: the plan that the words of the command line ask for.
 use Rattle.std.specs.Prelude.{◌≡◌, ◌≢◌, ◌⊎◌, ◌≤◌, ℕ, List, [], ◌∷◌, map, option_map, Option, Some, None, true, codes, decimal, length, All}
 use Rattle.std.specs.Borrow.{Bor}
 use Rattle.clap.specs.Lexer.{usize_max}
@@ -18,7 +18,7 @@ use Rattle.chem_shell.specs.declared.words.TheConstants.{LAST_SEED, MOST_STRUCTU
 abbrev pub texts : List (Bor Text) → List Text
 texts words = map (λ word. word.now) words
 
--- the bytes of the values of an argument, where it has an entry
+-- the bytes of the values of an argument, if it has an entry
 abbrev pub args_of : Option (Bor (List (Bor Text))) → Option (List Text)
 args_of args = option_map (λ words. texts words.now) args
 
@@ -53,7 +53,7 @@ chemdb_app = record {
 abbrev pub IsNumber : Text → ℕ → ℕ → ℕ → Type 0
 IsNumber word least most n = (word ≡ decimal n) × (least ≤ n) × (n ≤ most)
 
--- the number that an option gives, from 1 on, and the default where the option is not given
+-- the number of an option, from 1 on, or the default if the option is not given
 abbrev pub IsSetting : Option Text → ℕ → ℕ → ℕ → Type 0
 IsSetting None most default n = n ≡ default
 IsSetting (Some word) most default n = IsNumber word 1 most n
@@ -116,7 +116,7 @@ pub record IsRunOf (found : List Row) (plan : Plan) : Type 0 where
   pub seed : plan.seed ≡ 0
   pub count : plan.count ≡ 0
 
--- the args are a file and 1 to 16 scripts, none of which is empty
+-- the args are a file and 1 to 16 scripts, all not empty
 pub record AreFileAndScripts (args : Option (List Text)) (file : Text) (scripts : List Text) : Type 0 where
   pub are : args ≡ Some (file ∷ scripts)
   pub file_is : file ≢ []
@@ -180,7 +180,7 @@ pub record AsksFor (words : List Text) (plan : Plan) : Type 0 where
 abbrev pub Asks : List Text → Type 0
 Asks words = (plan : Plan) × AsksFor words plan
 
--- P holds of the plan of the words, where it has this command
+-- P holds of the plan of the words, if it has this command
 abbrev pub OnPlan : List Text → Verb → (Plan → Type 0) → Type 0
 OnPlan words verb P = (plan : Plan) → AsksFor words plan → plan.command ≡ verb → P plan
 

@@ -16,7 +16,7 @@ use session_run::EndStatus;
 use std::alloc::{AllocError, Global};
 use std::thread::Threads;
 
-// How many bytes of the generated script are given at once.
+// The number of bytes of the generated script that are given at once.
 const PIECE: usize = 65_536;
 
 /// Puts the summary to an end. Nothing is taken from it.

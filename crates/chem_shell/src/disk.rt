@@ -30,8 +30,8 @@ use std::thread::Threads;
 use store_disk::{Disks, Store, a_standing_store_opens};
 use store_machine::{rebases_keep, replies_tell, runs_stay_sound};
 
-/// Makes an empty store on two empty disks: it is on disk `a`, and disk `b` stays empty. The disks come back, with the
-/// status. Disk `a` is asked first, and `b` only where `a` is empty. Disk `b` is synced before the store is made, so
+/// Makes an empty store on two empty disks: it is on disk `a`, and disk `b` stays empty. Returns the disks and the
+/// status. Disk `a` is looked at first, and `b` only if `a` is empty. Disk `b` is synced before the store is made, so
 /// that no crash leaves another store on it.
 pub fn create<D: Disk + Drop>(disks: Disks<D>) -> (Disks<D>, u8)
     ensures creates { Creates D.model disks result.0 result.1 }
@@ -59,7 +59,7 @@ pub fn create<D: Disk + Drop>(disks: Disks<D>) -> (Disks<D>, u8)
     (Disks { a, b }, status)
 }
 
-// Whether a disk has no bytes. It has none after a crash either then.
+// True if a disk has no bytes. Then it has none after a crash either.
 fn is_empty<D: Disk>(disk: &mut D) -> Result<bool, DiskFail>
     ensures yes { IfOk result (λ empty. empty ≡ true → IfTold (D.model.content disk.old)
         (λ l. (l ≡ []) × Exactly [] (D.model.images disk.new))) }

@@ -34,7 +34,7 @@ pub fn serve_drill<R: Threads + Sync, S: Source + Drop, K: Sink + Drop>(
     end.status = end_status(ended);
 }
 
-// A drill of a world that is made here. Where memory runs out for it, nothing is taken or put.
+// A drill of a world that is made here. If memory runs out for it, nothing is taken or put.
 fn run_drill<R: Threads + Sync, I: Source, O: Sink>(
     rt: &R,
     alloc: Global,

@@ -1,10 +1,10 @@
-//! Which word is wrong, and why.
+//! The word that is wrong, and why.
 ghost use Rattle.std.specs.Prelude.{◌≡◌};
 
 use std::alloc::AllocError;
 use thiserror::Error;
 
-/// Why words ask for nothing. Its text is a sentence in one line.
+/// Why words are refused. Its text is a sentence in one line.
 #[derive(Debug, Drop, Error)]
 pub(crate) enum WordFault<'w> {
     /// `clap` refuses the words, for this reason.

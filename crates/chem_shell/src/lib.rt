@@ -1,9 +1,9 @@
-//! The top call of chemdb: words, ends and disks in, and what became of them out.
+//! The top call of chemdb: it takes words, ends and disks, and returns them with their statuses.
 //!
-//! The words are read by a table of commands into a plan. `mem` is one session over a store in memory; `bulk` runs a
-//! generated script on one and puts the summary of its transcript; `drill` is sixteen sessions on one, whose disks are
-//! stopped or failed and which is opened again, as its lines say. `init` makes an empty store on two disks; `run` is
-//! one session over the store that is there, and `serve` several at a time.
+//! The words are read by a table of commands into a plan. `mem` is one session over a store in memory. `bulk` runs a
+//! generated script on one, and puts the summary of its transcript. `drill` is sixteen sessions on one; its lines stop
+//! or fail the disks, and open it again. `init` makes an empty store on two disks. `run` is one session over the store
+//! that is there, and `serve` several at a time.
 #![tactic(auto)]
 
 mod bulk;

@@ -1,4 +1,4 @@
-//! What the top call leaves.
+//! The outcome of the top call.
 ghost use Rattle.std.specs.Prelude.{◌≡◌, map};
 ghost use Rattle.journal_core.specs.Looks.{Narrows};
 ghost use Rattle.chem_shell.specs.Contents.{disks_of};
@@ -10,8 +10,8 @@ use disk_edge::Disk;
 use serve_ends::End;
 use store_disk::Disks;
 
-/// What the top call leaves: the overall status, the place of damage on a disk (0 where there is none), and what was
-/// handed in.
+/// The outcome of the top call: the overall status, the place of damage on a disk (0 if there is none), and the ends
+/// and disks.
 #[derive(Drop)]
 pub struct Outcome<D, S, K> {
     pub status: u8,

@@ -1,4 +1,4 @@
-//! A request: what the words of the command line ask for.
+//! A request: the plan that the words of the command line ask for.
 
 use thiserror::Error;
 
@@ -19,15 +19,15 @@ pub enum Verb {
     Drill,
 }
 
-/// What the words ask for: a command and its settings.
+/// The plan of the words: a command and its settings.
 #[derive(Debug, Drop)]
 pub struct Plan<'w> {
     pub command: Verb,
-    /// The store's file, where the command has one.
+    /// The store's file, if the command has one.
     pub file: Option<&'w str>,
-    /// The scripts, one for each end, where they are files.
+    /// The scripts, one for each end, if they are files.
     pub scripts: Vec<&'w str>,
-    /// How many ends are served.
+    /// The number of ends that are served.
     pub ends: u32,
     /// Threads for matching, 1 to 16.
     pub workers: u32,
@@ -35,9 +35,9 @@ pub struct Plan<'w> {
     pub page: u32,
     /// The most commits that a store may have, 1 to 16,777,215.
     pub commits: u32,
-    /// The seed of a generated script, 1 to 2,147,483,646; 0 where the command has none.
+    /// The seed of a generated script, 1 to 2,147,483,646; 0 if the command has none.
     pub seed: u32,
-    /// How many structures a generated script registers, 0 to 100,000; 0 where the command has none.
+    /// The number of structures that a generated script registers, 0 to 100,000; 0 if the command has none.
     pub count: u32,
 }
 

@@ -1,4 +1,4 @@
-//! The top call: the words, the ends and the disks in, and what became of them out.
+//! The top call: it takes the words, the ends and the disks, and returns them with their statuses.
 ghost use Rattle.std.specs.Prelude.{◌≡◌, ◌≢◌, ◌≤◌, ◌⊎◌, [], length, map};
 ghost use Rattle.std.specs.List.{AllZip};
 ghost use Rattle.disk_edge.specs.Disk.{Faulted};
@@ -30,11 +30,10 @@ use std::sync::Wait;
 use std::thread::Threads;
 use store_disk::Disks;
 
-/// The program over the objects that it is handed: what the words ask for is done with the ends and the disks, and the
-/// statuses say how it ended. `mem` serves one end by a session over a store in memory, and `run` over the store of
-/// both disks; `serve` serves several at the same time over that store; `bulk` puts a summary to one; `drill` serves
-/// one by sessions on a store in memory whose disks are stopped, failed and reopened; `init` makes a store on both,
-/// and has no end.
+/// Runs the program over the given objects: executes the plan of the words with the ends and the disks, and returns the
+/// statuses. `mem` serves one end by a session over a store in memory, and `run` over the store of both disks. `serve`
+/// serves several at the same time over that store. `bulk` puts a summary to one. `drill` serves one by sessions on a
+/// store in memory whose disks are stopped, failed and reopened. `init` makes a store on both disks, and has no end.
 pub fn chemdb<
     R: Threads + Wait + Sync,
     D: Disk + Send + Drop,
@@ -51,16 +50,15 @@ pub fn chemdb<
         → result.ends.items ≡ map (with_status result.status) ends.items }
     ensures no_plan_disks { ¬ Asks (texts words.now) → (result.a ≡ a) × (result.b ≡ b) }
 
-    // Where an end is served, the overall status is the first that is not 0.
+    // If an end is served, the overall status is the first that is not 0.
     ensures overall { Asks (texts words.now) → 1 ≤ length ends.items
         → result.status ≡ first_fault (map (λ end. end.status) result.ends.items) }
 
-    // A fault comes only where the end's object failed in this call, and only an input of the limit's length is too
-    // long.
+    // A fault comes only if the end's object failed in this call, and only an input of the limit's length is too long.
     ensures end_causes { AllZip (HasEndCauses S.left S.faults K.faults) ends.items result.ends.items }
 
-    // A fault of a disk comes only where one failed in this call. There is no store where neither disk is open, and the
-    // place of damage is that of the bytes that are read.
+    // A fault of a disk comes only if one failed in this call. There is no store if neither disk is open, and the place
+    // of damage is that of the bytes that are read.
     ensures disk_fault { result.status ≡ DISK_FAULT → Faulted D.model a result.a ⊎ Faulted D.model b result.b }
     ensures not_a_store { result.status ≡ NOT_A_STORE → IfBothTell D.model (record { a = a; b = b })
         (λ x y. (¬ IsOpen x) × (¬ IsOpen y)) }
@@ -68,46 +66,46 @@ pub fn chemdb<
         → IfBothTell D.model (record { a = a; b = b }) (Damages result.place) }
     ensures place { result.status ≢ DAMAGED → result.place ≡ 0 }
 
-    // `mem`: what was written is a prefix of a transcript of the source's bytes, by pages of the plan, in a run of a
-    // store in memory that begins empty and may have the plan's commits; all of one where the status is 0, and then the
-    // source was read to its end. Where the source failed or its bytes are too many, exactly the requests that are
-    // whole in the bytes that were taken were answered.
+    // `mem`: the output is a prefix of a transcript of the source's bytes, by pages of the plan. Its run is of a store
+    // in memory that begins empty and may have the plan's commits. It is all of one if the status is 0, and then the
+    // source was read to its end. If the source failed or its bytes are too many, exactly the whole requests of its
+    // taken bytes were answered.
     ensures mem { OnPlan (texts words.now) Verb.Mem (λ plan. (disks_of result ≡ record { a = a; b = b })
         × AllZip (ServesMem plan S.left K.written) ends.items result.ends.items) }
 
-    // `init`: if it is done, both disks were empty, `a` has the empty store, and no crash leaves a byte on `b`. Where
-    // one has bytes both are as before. Disk `b` is only read and synced.
+    // `init`: if it is done, both disks were empty, `a` has the empty store, and no crash leaves a byte on `b`. If one
+    // has bytes, both are as before. Disk `b` is only read and synced.
     ensures init { OnPlan (texts words.now) Verb.Init (λ _. (result.ends.items ≡ [])
         × Creates D.model (record { a = a; b = b }) (disks_of result) result.status) }
 
-    // `run`: where the store was not loaded, nothing was taken or put, and the disks were only read. Else what was
-    // written is a prefix of a transcript, as for `mem`, in a run that begins with the history of both disks. A crash
-    // at any moment of a step leaves each commit that was acknowledged before it, in order, and at most one more; and
-    // afterwards the disks have the run's history. A disk fault comes only where a disk counted one in that call.
+    // `run`: if the store was not loaded, nothing was taken or put, and the disks were only read. Else the output is a
+    // prefix of a transcript, as for `mem`, in a run that begins with the history of both disks. A crash at any moment
+    // of a step leaves each commit that was acknowledged before it, in order, and at most one more. Afterwards the
+    // disks have the run's history. A disk fault comes only if a disk counted one in that call.
     ensures run { OnPlan (texts words.now) Verb.Run (λ plan. AllZip (λ old new.
         IsRefused D.model (record { a = a; b = b }) (disks_of result) old new
         ⊎ RunsOn D.model S.left K.written plan (record { a = a; b = b }) (disks_of result) old new)
         ends.items result.ends.items) }
 
-    // `serve`: where the store was not loaded, or memory ran out before any end was served, nothing was taken or put,
-    // the disks were only read, and each end has the overall status. Else there is one run on the disks, as for `run`.
-    // Each end has one owner's steps of it, numbered from 1 in the order of the ends, and no step is another's; what
-    // was written to an end is a prefix of a transcript by its steps.
+    // `serve`: if the store was not loaded, or memory ran out before any end was served, nothing was taken or put. The
+    // disks were only read then, and each end has the overall status. Else there is one run on the disks, as for `run`.
+    // Each end has the steps of one owner, numbered from 1 in the order of the ends, and no step has another owner. The
+    // output of an end is a prefix of a transcript by its steps.
     ensures serve { OnPlan (texts words.now) Verb.Serve (λ plan.
         AllZip (IsRefusedAs D.model (record { a = a; b = b }) (disks_of result) result.status)
         ends.items result.ends.items
         ⊎ ServesOn D.model S.left K.written plan (record { a = a; b = b }) (disks_of result)
         ends.items result.ends.items) }
 
-    // `bulk`: nothing is taken. What was written is the summary of a transcript of the generated script, in such a run
-    // as for `mem`; a prefix of one where the sink failed; nothing where memory ran out.
+    // `bulk`: nothing is taken. The output is the summary of a transcript of the generated script, in a run as for
+    // `mem`. It is a prefix of one if the sink failed, and empty if memory ran out.
     ensures bulk { OnPlan (texts words.now) Verb.Bulk (λ plan. (disks_of result ≡ record { a = a; b = b })
         × AllZip (ServesBulk plan K.written) ends.items result.ends.items) }
 
-    // `drill`: what was written is a prefix of a drill of the source's bytes, by pages of the plan, in a run of a store
-    // in memory that begins empty and may have the plan's commits, with a crash and an opening for each reopening; all
-    // of one where the status is 0. Each session's searches, cursors, lookups and watches that ended told exactly what
-    // the run's history has. A disk fault comes only where lines before it allow it that stop or fail a disk.
+    // `drill`: the output is a prefix of a drill of the source's bytes, by pages of the plan; all of one if the status
+    // is 0. Its run is of a store in memory that begins empty and may have the plan's commits, with a crash and an
+    // opening for each reopening. Each session's searches, cursors, lookups and watches that ended reported exactly the
+    // run's history. A disk fault comes only if earlier lines that stop or fail a disk allow it.
     ensures drill { OnPlan (texts words.now) Verb.Drill (λ plan. (disks_of result ≡ record { a = a; b = b })
         × AllZip (ServesDrill plan S.left K.written) ends.items result.ends.items) }
 {
@@ -119,7 +117,7 @@ pub fn chemdb<
     }
 }
 
-// Does what a plan asks for.
+// Executes a plan.
 fn carry_out<
     R: Threads + Wait + Sync,
     D: Disk + Send + Drop,

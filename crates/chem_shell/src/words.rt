@@ -1,4 +1,4 @@
-//! The words of the command line: what they ask for, or which of them is wrong.
+//! The words of the command line: their plan, or the word that is wrong.
 ghost use Rattle.std.specs.Prelude.{◌≡◌, ◌≢◌, ◌≤◌, ◌⊎◌, ℕ, [], None, Some, ◌∷◌, false, option_map, IfErr, IfOk, IsErrOf, IsNone, IsSome, OnErr, OnOk, List, All, length};
 ghost use Rattle.clap.specs.Words.{Text, app_of, fault_of, found_of, kind_of, matches_of, rows_of, rule_of};
 ghost use Rattle.serve_ends.specs.declared.serve.TheConstants.{MOST_ENDS};
@@ -20,8 +20,8 @@ pub const LAST_SEED: u32 = 2_147_483_646;
 /// The most structures that a generated script registers.
 pub const MOST_STRUCTURES: u32 = 100_000;
 
-/// Reads the words: by `clap`, and then by the table of commands. `Usage` where they ask for nothing; `NoMemory` where
-/// memory ran out first.
+/// Reads the words: by `clap`, and then by the table of commands. `Usage` if they have no plan; `NoMemory` if memory
+/// ran out first.
 pub fn plan<'w>(alloc: Global, words: &'w [&'w str]) -> Result<Plan<'w>, PlanFault>
     ensures ok { IfOk result (AsksFor (texts words.now)) }
     ensures scripts { IfOk result (λ plan. plan.command ≡ Verb.Serve → plan.ends ≡ length plan.scripts.items) }
@@ -34,8 +34,7 @@ pub fn plan<'w>(alloc: Global, words: &'w [&'w str]) -> Result<Plan<'w>, PlanFau
     }
 }
 
-/// Which of the words is wrong and why, in one line; `None` where they ask for something. Fails only for want of
-/// memory.
+/// The word that is wrong and why, in one line; `None` if the words have a plan. Fails only for want of memory.
 pub fn word_fault(alloc: Global, words: &[&str]) -> Result<Option<String>, AllocError>
     ensures some { IfOk result (λ fault. IsSome fault → ¬ Asks (texts words.now)) }
     ensures none { IfOk result (λ fault. IsNone fault → Asks (texts words.now)) }
@@ -47,7 +46,7 @@ pub fn word_fault(alloc: Global, words: &[&str]) -> Result<Option<String>, Alloc
     }
 }
 
-// What the words ask for, or what is wrong with them.
+// The plan of the words, or their fault.
 fn read<'w>(alloc: Global, words: &'w [&'w str]) -> Result<Plan<'w>, WordFault<'w>>
     ensures ok { IfOk result (AsksFor (texts words.now)) }
     ensures err { IfErr result (λ fault. (fault ≡ WordFault.NoMemory) ⊎ ¬ Asks (texts words.now)) }
@@ -90,7 +89,8 @@ fn option<'w>(alloc: Global, name: &'w str) -> Arg<'w>
     Arg::new(alloc, name).long(name)
 }
 
-// What that command finds in the words.
+// The matches of that command in the words. Contracts of an `Ok` cite `fault_of`, the test of `takes` from the other
+// side.
 fn matches<'w>(alloc: Global, words: &'w [&'w str]) -> Result<ArgMatches<'w>, WordFault<'w>>
     ensures ok { IfOk result (λ found. (fault_of chemdb_app (texts words.now) ≡ [])
         × (rows_of (found_of found) ≡ matches_of chemdb_app (texts words.now))) }
@@ -102,7 +102,7 @@ fn matches<'w>(alloc: Global, words: &'w [&'w str]) -> Result<ArgMatches<'w>, Wo
     }
 }
 
-// What is wrong where `clap` answers this.
+// The fault of the words, if `clap` answers this error.
 fn refused<'w>(alloc: Global, error: &Error) -> WordFault<'w>
     ensures { (result ≡ WordFault.NoMemory) ⊎ (kind_of error.now ≢ ErrorKind.OutOfMemory) }
 {
@@ -244,7 +244,7 @@ fn bulk<'w>(alloc: Global, found: &ArgMatches<'w>) -> Result<Plan<'w>, WordFault
     })
 }
 
-// How many workers, and how many records in a page.
+// The number of workers, and of records in a page.
 fn sizes<'w>(found: &ArgMatches<'w>) -> Result<(u32, u32), WordFault<'w>>
     ensures ok { IfOk result (λ sizes. AreSizes (rows_of (found_of found.now)) sizes.0 sizes.1) }
     ensures err { OnErr result ((workers page : ℕ) → ¬ AreSizes (rows_of (found_of found.now)) workers page) }
@@ -254,7 +254,7 @@ fn sizes<'w>(found: &ArgMatches<'w>) -> Result<(u32, u32), WordFault<'w>>
     Ok((workers, page))
 }
 
-// How many commits a store may have.
+// The number of commits that a store may have.
 fn commits<'w>(found: &ArgMatches<'w>) -> Result<u32, WordFault<'w>>
     ensures ok { IfOk result (AreCommits (rows_of (found_of found.now))) }
     ensures err { OnErr result ((n : ℕ) → ¬ AreCommits (rows_of (found_of found.now)) n) }
@@ -316,7 +316,7 @@ fn file_and_scripts<'a, 'w>(
     }
 }
 
-// The words, where they are 1 to 16 names of scripts.
+// The words, if they are 1 to 16 names of scripts.
 fn are_scripts<'a, 'w>(words: &'a [&'w str]) -> Result<&'a [&'w str], WordFault<'w>>
     ensures ok { IfOk result (λ scripts. (scripts.now ≡ words.now)
         × (1 ≤ length words.now) × (length words.now ≤ MOST_ENDS)
@@ -339,7 +339,7 @@ fn are_scripts<'a, 'w>(words: &'a [&'w str]) -> Result<&'a [&'w str], WordFault<
     }
 }
 
-// `serve` wants a script's name where there is none.
+// `serve` lacks a script's name.
 fn no_script<'w>() -> WordFault<'w> {
     WordFault::MissingWord {
         command: "serve",
@@ -383,8 +383,7 @@ fn two_words<'w>(args: Option<&[&'w str]>) -> Result<(&'w str, &'w str), WordFau
     }
 }
 
-// The number that an option gives, where it is a decimal from 1 to `most`, and the default where the option is not
-// given.
+// The number of an option, if it is a decimal from 1 to `most`, or the default if the option is not given.
 fn setting<'w>(
     name: &'static str,
     text: Option<&'w str>,
@@ -400,7 +399,7 @@ fn setting<'w>(
     }
 }
 
-// The number that a word is, where it is a decimal of this range.
+// The number of a word, if it is a decimal of this range.
 fn number<'w>(
     name: &'static str,
     word: &'w str,

@@ -53,7 +53,7 @@ impl<'a> Cursor<'a> {
         self.place += 1;
     }
 
-    /// How many bytes stand before the place.
+    /// The number of bytes before the place.
     pub fn place(&self) -> usize
         ensures value { result ≡ self.now.at }
         ensures within { result ≤ length self.now.text }

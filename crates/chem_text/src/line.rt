@@ -5,8 +5,8 @@ ghost use Rattle.chem_text.specs.Line.{IsLine};
 
 use memchr::memchr;
 
-/// The line from a place on: where it ends, before its LF, and where the next one starts. The last line may have no LF,
-/// and then both are the length. `None` at the end of the text.
+/// The line from a place on: its end, before its LF, and the start of the next one. The last line may have no LF, and
+/// then both are the length. `None` at the end of the text.
 pub fn line_at(bytes: &[u8], from: usize) -> Option<(usize, usize)>
     requires { from ≤ length bytes.now }
     ensures none { IsNone result ↔ (from ≡ length bytes.now) }

@@ -31,7 +31,7 @@ pub fn push_decimal(out: &mut Vec<u8>, n: u64) -> Result<(), AllocError>
     out.extend_from_slice(Buffer::new().format(n).as_bytes())
 }
 
-// Whether no plus and no leading zero stands in front.
+// True if there is no leading plus, and no zero before other bytes.
 fn is_canonical(bytes: &[u8]) -> bool
     ensures { IsTrue result ↔ IsCanonical bytes.now }
 {

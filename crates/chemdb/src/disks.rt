@@ -1,4 +1,4 @@
-//! The two files of a store, opened as the words ask for them, and the cut of the one that is no longer read.
+//! The two files of a store, opened for the command, and the cut of the one that is no longer read.
 
 use crate::settle::settle;
 use chem_shell::{Plan, Verb};
@@ -9,8 +9,8 @@ use std::alloc::{AllocError, Global};
 use std::fs::{self, File, Files};
 use std::io::ErrorKind;
 
-/// The two disks that the words ask for, the path of the first one's file, and the generation that is read, where both
-/// files are held and one of them is open: a store is there then, and stays locked.
+/// The two disks of the command and the path of the first one's file. If both files are held and one of them is open,
+/// also the generation that is read: a store is there then, and stays locked.
 #[derive(Drop)]
 pub struct Opened {
     pub path: Option<String>,
@@ -19,10 +19,10 @@ pub struct Opened {
     pub generation: Option<u32>,
 }
 
-/// The disks of the store that the words name: its file, which `init` makes where it is not there, and the file of its
-/// name with `.2` appended. Where the words name a link, the store is what the link leads to, and the second file lies
-/// beside that. The second is made only beside a store, or where `init` finds no bytes. A name that is another file's
-/// second file opens nothing.
+/// The disks of the named store: its file, which `init` makes if it is missing, and the file of its name with `.2`
+/// appended. If the name is a link, the store is the file that it leads to, and the second file lies beside that. The
+/// second is made only beside a store, or if `init` finds no bytes. A name that is another file's second file opens
+/// nothing.
 pub fn open_disks<R: AllocGlobal + Files<File = File>>(
     rt: &R,
     alloc: Global,
@@ -53,8 +53,9 @@ pub fn open_disks<R: AllocGlobal + Files<File = File>>(
     })
 }
 
-/// Cuts the file that is not read, where the generation that is read is greater than it was: a compaction ended since,
-/// and each record of the store is in the file that is read. Both are synced first. Where a disk fails nothing is cut.
+/// Cuts the file that is not read, if the generation that is read is greater than it was. Then a compaction ended
+/// since, and each record of the store is in the file that is read. Both are synced first. If a disk fails, nothing is
+/// cut.
 pub fn cut_other(a: &mut FileDisk, b: &mut FileDisk, before: u32) {
     if let Ok(Some((which, generation))) = current(a, b) {
         if generation > before {
@@ -76,8 +77,8 @@ fn none() -> Opened {
     }
 }
 
-// The path of the file that a path leads to. `None` where it names a link that leads nowhere, or a file that another
-// has for its second: by that name it would be one store's first file and the other's second.
+// The path of the file that a path leads to. `None` for a link that leads nowhere, and for a file that is another's
+// second file. By that name it would be one store's first file and the other's second.
 fn followed<R: AllocGlobal + Files<File = File>>(
     rt: &R,
     alloc: Global,
@@ -105,7 +106,7 @@ fn of_first<R: AllocGlobal + Files<File = File>>(
     }
 }
 
-// Whether a path leads to a regular file.
+// True if a path leads to a regular file.
 fn is_file<R: Files<File = File>>(rt: &R, path: &str) -> bool {
     match fs::metadata(rt, path) {
         Ok(found) => found.is_file(),
@@ -113,7 +114,7 @@ fn is_file<R: Files<File = File>>(rt: &R, path: &str) -> bool {
     }
 }
 
-// Whether a path names a link.
+// True if a path names a link.
 fn is_link<R: Files<File = File>>(rt: &R, path: &str) -> bool {
     match fs::symlink_metadata(rt, path) {
         Ok(found) => found.is_symlink(),
@@ -142,7 +143,7 @@ fn store_disks<R: Files<File = File>>(rt: &R, path: &str, second: &str) -> (File
     (a, b)
 }
 
-// The two with their generation. Where one of them fails neither is held.
+// The two with their generation. If one of them fails, neither is held.
 fn measured(path: String, a: FileDisk, b: FileDisk) -> Opened {
     let (mut a, mut b) = (a, b);
     match current(&mut a, &mut b) {
@@ -156,7 +157,7 @@ fn measured(path: String, a: FileDisk, b: FileDisk) -> Opened {
     }
 }
 
-// Syncs both, and says which is read, and its generation. `None` where neither is open.
+// Syncs both, and returns the one that is read, and its generation. `None` if neither is open.
 fn current(a: &mut FileDisk, b: &mut FileDisk) -> Result<Option<(Which, u32)>, DiskFail> {
     let Some(which) = which_is_read(a, b)? else {
         return Ok(None);

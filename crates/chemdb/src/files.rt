@@ -89,9 +89,9 @@ impl Sink for Replies {
 /// An end for each script. It reads the file of that name, and its replies go to the file of that name with `.out`
 /// appended, which is emptied before.
 ///
-/// Replies never take the place of the store, of a script or of another script's replies: all scripts are opened and
-/// locked first, and a file that is locked stays as it is. So does a file that begins as a store does. Without
-/// `has_store` the files of the store may not be locked, so no file for replies is made or emptied.
+/// Replies never replace the store, a script or another script's replies. All scripts are opened and locked first, and
+/// a locked file stays as it is. So does a file that begins as a store does. Without `has_store` the files of the store
+/// may not be locked, so no file for replies is made or emptied.
 pub fn script_ends<R: Files<File = File>>(
     rt: &R,
     alloc: Global,
@@ -151,8 +151,8 @@ fn readable<R: Files<File = File>>(rt: &R, path: &str) -> Option<File> {
 }
 
 // The file of this path, open for writing, under an exclusive lock, and empty. It is made if nothing is there. `None`,
-// and the file stays as it is, if its lock is held, if it is one of the scripts (which may not be open, and so not be
-// locked), or if it may be a store. No pipe or terminal is emptied.
+// and the file is unchanged, if its lock is held, if it is one of the scripts, or if it may be a store. (A script may
+// not be open, and so not be locked.) No pipe or terminal is emptied.
 fn emptied<R: Files<File = File>>(rt: &R, path: &str, scripts: &[&str]) -> Option<File> {
     let file = OpenOptions::new()
         .write(true)
@@ -173,7 +173,7 @@ fn emptied<R: Files<File = File>>(rt: &R, path: &str, scripts: &[&str]) -> Optio
     Some(file)
 }
 
-// Whether this file is one of the scripts, by whatever name.
+// True if this file is one of the scripts, by whatever name.
 fn is_script<R: Files<File = File>>(rt: &R, file: &Metadata, scripts: &[&str]) -> bool {
     for script in scripts {
         if let Ok(named) = fs::metadata(rt, script) {
@@ -185,12 +185,12 @@ fn is_script<R: Files<File = File>>(rt: &R, file: &Metadata, scripts: &[&str]) -
     false
 }
 
-// Whether both are the same file.
+// True if both are the same file.
 fn is_same(a: &Metadata, b: &Metadata) -> bool {
     a.dev() == b.dev() && a.ino() == b.ino()
 }
 
-// Whether the file of this path begins as a store does. True if it cannot be read; false if it is too short for one.
+// True if the file of this path begins as a store does, or if it cannot be read. False if it is too short for one.
 fn may_be_store<R: Files<File = File>>(rt: &R, path: &str, file: &Metadata) -> bool {
     if file.len() < 8 {
         return false;
@@ -212,7 +212,7 @@ fn start_of<R: Files<File = File>>(rt: &R, path: &str, file: &Metadata) -> Optio
     Some(start)
 }
 
-// Whether a store begins with these bytes. The first one, its gate, may be any: a copy that was not finished has a shut
+// True if a store begins with these bytes. The first one, its gate, may be any: a copy that was not finished has a shut
 // one.
 fn is_start(start: &[u8; 8]) -> bool {
     matches!(start, [_, b'C', b'H', b'E', b'M', b'D', b'B', b'1' | b'2'])

@@ -22,7 +22,7 @@ use std::rt::{Env, Files};
 use std::sync::Wait;
 use std::thread::Threads;
 
-/// What is printed where the words ask for nothing, behind a line that says why.
+/// The usage, printed if the words are refused, after a line with the reason.
 const USAGE: &str = "\
 usage: chemdb COMMAND [OPTIONS]
 
@@ -52,7 +52,7 @@ fn main(rt: HostRuntime) -> ExitCode {
     ExitCode::from(run(&rt))
 }
 
-/// Serves what the words ask for from standard input to standard output, and answers the overall status.
+/// Executes the words from standard input to standard output, and returns the overall status.
 fn run<R: Env + AllocGlobal + Files<File = File> + Input + Print + Eprint + Threads + Wait + Sync>(
     rt: &R,
 ) -> u8
@@ -92,8 +92,8 @@ where
     Ok(status)
 }
 
-/// The ends are the scripts that the words name, and their replies, or else standard input and output. Where the store
-/// is damaged, it says which file is, and from which byte on.
+/// The ends are the scripts of the words, and their replies, or else standard input and output. If the store is
+/// damaged, its message gives the file, and the first damaged byte.
 fn serve<R: AllocGlobal + Files<File = File> + Input + Print + Eprint + Threads + Wait + Sync>(
     rt: &R,
     alloc: Global,
@@ -125,8 +125,8 @@ where
     }
 }
 
-/// The overall status of an outcome. Where the store is damaged, it prints which of its files is, and from which byte
-/// on. After a run that went well and compacted the store, the file that is no longer read is cut.
+/// The overall status of an outcome. If the store is damaged, it prints the damaged file, and the place of damage.
+/// After a run that went well and compacted the store, the file that is no longer read is cut.
 fn finished<R: Eprint, S: Drop, K: Drop>(
     rt: &R,
     outcome: Outcome<FileDisk, S, K>,
@@ -160,12 +160,12 @@ fn finished<R: Eprint, S: Drop, K: Drop>(
     status
 }
 
-/// Prints why the words ask for nothing, and what they may be. The status says it too, where standard error is gone.
+/// Prints why the words are refused, and the usage. If standard error is gone, only the status says it.
 fn explain<R: Eprint>(rt: &R, reason: &str) {
     let _ = eprintln!(rt; "chemdb: {reason}\n{USAGE}");
 }
 
-/// The words behind the program's name. One that is not UTF-8 is an error.
+/// The words after the program's name. One that is not UTF-8 is an error.
 fn words<R: Env + AllocGlobal>(rt: &R) -> io::Result<Vec<String>> {
     let mut words = Vec::new(rt.alloc());
     for word in env::args(rt)?.skip(1) {

@@ -1,12 +1,11 @@
-//! A store's files before they are read: the bytes on which an opening rests are written again, and synced.
+//! A store's files before they are read: the bytes that an opening depends on are written again, and synced.
 //!
-//! Where a sync fails, Linux takes the pages for written. It shows them as long as they lie in memory, and writes them
-//! no more, whatever later syncs answer. A program that starts then would read what the device may lack. Such pages
-//! were written since the last sync that succeeded, for a disk makes no call after one that failed. Of these an opening
-//! rests on few bytes: the first one of each file, which says whether it is open; the gate that was opened last; and
-//! the closed one behind its commit. What lies before an open gate was synced before the gate was opened. Each of these
-//! bytes is written with the value that it has, so that the next sync brings its page to the device, or the opening
-//! fails.
+//! If a sync fails, Linux takes the pages for written. It shows them as long as they lie in memory, and writes them no
+//! more, whatever later syncs answer. A program that starts then would read bytes that the device may lack. Such pages
+//! were written since the last sync that succeeded, for a disk makes no call after one that failed. An opening depends
+//! on few of these bytes. They are the first one of each file, which opens or shuts it, the gate that was opened last,
+//! and the closed one after its commit. Bytes before an open gate were synced before the gate was opened. Each of these
+//! bytes is written with the value that it has. So the next sync brings its page to the device, or the opening fails.
 ghost use Rattle.std.specs.Prelude.{◌≡◌, OnOk, false};
 
 use disk_edge::{Disk, DiskFail, FileDisk};
@@ -14,8 +13,8 @@ use disk_pair::{Picked, load};
 use journal_core::{Journal, LoadFault};
 use std::alloc::{AllocError, Global};
 
-/// The two files of a store, settled. `None` if one of them failed. Files of which neither is open are not written, nor
-/// are the gates of a damaged one.
+/// The two files of a store, settled. `None` if one of them failed. If neither is open, no file is written; the gates
+/// of a damaged file are not written.
 pub fn settle(
     alloc: Global,
     a: FileDisk,
@@ -60,7 +59,7 @@ fn write_gates(disk: &mut FileDisk, found: Option<(Option<u64>, u64)>) -> Result
     Ok(())
 }
 
-// Writes the first byte again where the file begins as a store's does, and syncs it.
+// Writes the first byte again if the file begins as a store's does, and syncs it.
 fn write_start(disk: &mut FileDisk) -> Result<(), DiskFail> {
     let mut start = [0; 7];
     if disk.len()? >= 7 {
@@ -72,7 +71,7 @@ fn write_start(disk: &mut FileDisk) -> Result<(), DiskFail> {
     disk.sync()
 }
 
-// The places of the gate that was opened last, if there is one, and of the closed one behind all commits.
+// The places of the gate that was opened last, if there is one, and of the closed one after all commits.
 fn gates(journal: &mut Journal<FileDisk>) -> Result<(Option<u64>, u64), LoadFault>
     requires settled { journal.old.doubt ≡ false }
 {

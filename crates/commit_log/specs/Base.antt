@@ -17,7 +17,7 @@ pub record Follows (version last : ℕ) (e : Entry) : Type 0 where
   pub made : 1 ≤ e.version
   pub past : e.version ≤ version
 
--- Entries of a base, behind one of this identifier: identifiers ascend, and their payloads are short.
+-- Entries of a base, after one of this identifier: identifiers ascend, and their payloads are short.
 abbrev pub AreEntries : ℕ → ℕ → List Entry → Type 0
 AreEntries version last [] = Unit {0}
 AreEntries version last (e ∷ entries) = Follows version last e × IsShort (written e) × AreEntries version e.id entries
@@ -35,7 +35,7 @@ abbrev pub placed : ℕ → List Entry → List (ℕ × Entry)
 placed at [] = []
 placed at (e ∷ entries) = (at, e) ∷ placed (at + 4 + length (written e)) entries
 
--- the place behind them
+-- the place after them
 abbrev pub end_of : ℕ → List Entry → ℕ
 end_of at [] = at
 end_of at (e ∷ entries) = end_of (at + 4 + length (written e)) entries
@@ -46,7 +46,7 @@ pub record TakesBase (version start : ℕ) (found : List (ℕ × BaseEntry)) (en
   pub ends : end ≡ end_of start (entries_of found)
   pub entries : AreEntries version 0 (entries_of found)
 
--- Behind what stands in front is one base record more, and no entry that may follow is read from its payload.
+-- After the front is one base record more, and no entry that may follow is read from its payload.
 pub record UnreadBase (version last : ℕ) (front bytes : List ℕ) : Type 0 where
   pub payload : List ℕ
   pub rest : List ℕ
@@ -55,8 +55,8 @@ pub record UnreadBase (version last : ℕ) (front bytes : List ℕ) : Type 0 whe
   pub short : IsShort payload
   pub none : (e : Entry) → Follows version last e → payload ≡ written e → ⊥
 
--- The base is damaged at a place: behind base records that were read before, records of entries lead up to it, fewer
--- than are left, and what is there is broken or is not read.
+-- The base is damaged at a place. After base records that were read before, records of entries lead up to it, fewer
+-- than are left. The bytes there are broken or are not read.
 pub record DamagesBase (h : Header) (before : List (List ℕ)) (left at : ℕ) (bytes : List ℕ) : Type 0 where
   pub entries : List Entry
   pub are : AreEntries h.base_version 0 entries
@@ -65,7 +65,7 @@ pub record DamagesBase (h : Header) (before : List (List ℕ)) (left at : ℕ) (
   pub damage : BreaksBase (front_of h (before ++ base_payloads entries)) bytes
       ⊎ UnreadBase h.base_version (last_id 0 entries) (front_of h (before ++ base_payloads entries)) bytes
 
--- The bytes begin with a whole base of these entries: as many as the header says.
+-- The bytes begin with a whole base of these entries, in the number that the header says.
 pub record HasBase (h : Header) (entries : List Entry) (bytes : List ℕ) : Type 0 where
   pub rest : List ℕ
   pub is : bytes ≡ front_of h (base_payloads entries) ++ rest

@@ -1,5 +1,5 @@
--- A change, and how it is written: a byte for its kind, the identifier in four bytes, the lowest first, and for a
--- registration or a revision a byte for the format and the text. For callers.
+-- A change, and its bytes: a byte for its kind, and the identifier in four bytes (little-endian). A registration or a
+-- revision also has a byte for the format, and the text. For callers.
 use Rattle.std.specs.Prelude.{◌≡◌, ◌≤◌, ℕ, List, ◌∷◌, ◌++◌}
 use Rattle.std.specs.Int.{to_le_bytes, w32}
 use Rattle.commit_log.specs.declared.change.Format.{Format}
@@ -7,7 +7,7 @@ use Rattle.commit_log.specs.declared.change.Format.TheVariants.{Smiles, Molfile}
 use Rattle.commit_log.specs.declared.change.Wire.{Wire}
 use Rattle.commit_log.specs.declared.change.Wire.TheVariants.{Register, Revise, Withdraw}
 
--- a change without where its text lies in memory
+-- a change without the place of its text in memory
 pub data Change : Type 0 where
   registered : (id : ℕ) (format : Format) (text : List ℕ) → Change
   revised : (id : ℕ) (format : Format) (text : List ℕ) → Change

@@ -1,5 +1,5 @@
--- An entry of a base, and how it is written: a byte for its kind, the identifier and the version in four bytes each,
--- the lowest first, and for a live one a byte for the format and the text. For callers.
+-- An entry of a base, and its bytes: a byte for its kind, and the identifier and the version in four bytes each
+-- (little-endian). A live one also has a byte for the format, and the text. For callers.
 use Rattle.std.specs.Prelude.{◌≡◌, ◌≤◌, ◌<◌, ◌^◌, ℕ, List, [], ◌∷◌, ◌++◌}
 use Rattle.std.specs.Int.{to_le_bytes, w32}
 use Rattle.commit_log.specs.Change.{format_byte}
@@ -8,7 +8,7 @@ use Rattle.commit_log.specs.declared.base.BaseState.{BaseState}
 use Rattle.commit_log.specs.declared.base.BaseState.TheVariants.{Live, Withdrawn}
 use Rattle.commit_log.specs.declared.change.Format.{Format}
 
--- what an identifier has, without where its text lies in memory
+-- the state of an identifier, without the place of its text in memory
 pub data EntryState : Type 0 where
   live : (format : Format) (text : List ℕ) → EntryState
   withdrawn : EntryState
@@ -30,7 +30,7 @@ abbrev pub kind : EntryState → ℕ
 kind (live format text) = 4
 kind withdrawn = 5
 
--- what stands behind the numbers
+-- the bytes after the numbers
 abbrev pub tail : EntryState → List ℕ
 tail (live format text) = format_byte format ∷ text
 tail withdrawn = []

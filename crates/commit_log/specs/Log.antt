@@ -14,13 +14,13 @@ payloads changes = map written changes
 abbrev pub IsLogged : Change → Type 0
 IsLogged change = IsInRange change × IsShort (written change)
 
--- Behind what stands in front and the records of payloads that were read before, the bytes are a log of these changes:
--- they open to those payloads and the changes', and each change is in range.
+-- After the front and the records of payloads that were read before, the bytes are a log of these changes. They open to
+-- those payloads and the changes', and each change is in range.
 pub record IsLog (front : List ℕ) (before : List (List ℕ)) (changes : List Change) (bytes : List ℕ) : Type 0 where
   pub opens : Opens front (before ++ payloads changes) bytes
   pub logged : AllByRecursion IsLogged changes
 
--- Behind open records of these payloads is one more, and no change in range is read from its payload.
+-- After open records of these payloads is one more, and no change in range is read from its payload.
 pub record Unread (front : List ℕ) (payloads : List (List ℕ)) (bytes : List ℕ) : Type 0 where
   pub payload : List ℕ
   pub rest : List ℕ
@@ -29,15 +29,15 @@ pub record Unread (front : List ℕ) (payloads : List (List ℕ)) (bytes : List 
   pub short : IsShort payload
   pub none : IsNoChange payload
 
--- The log is damaged at a place: behind what stands in front and the records of payloads that were read before, records
--- of changes lead up to it, and what is there is broken or is not read.
+-- The log is damaged at a place. After the front and the records of payloads that were read before, records of changes
+-- lead up to it. The bytes there are broken or are not read.
 pub record DamagesLog (front : List ℕ) (before : List (List ℕ)) (at : ℕ) (bytes : List ℕ) : Type 0 where
   pub changes : List Change
   pub logged : AllByRecursion IsLogged changes
   pub place : at ≡ length (prefix front (before ++ payloads changes))
   pub damage : Breaks front (before ++ payloads changes) bytes ⊎ Unread front (before ++ payloads changes) bytes
 
--- a whole file: what stands in front, the records of these payloads and of these changes, and a closed gate
+-- a whole file: the front, the records of these payloads and of these changes, and a closed gate
 abbrev pub log_text : List ℕ → List (List ℕ) → List Change → List ℕ
 log_text front before changes = text front (before ++ payloads changes)
 
@@ -49,7 +49,7 @@ abbrev pub placed : ℕ → List Change → List (ℕ × Change)
 placed at [] = []
 placed at (change ∷ changes) = (at, change) ∷ placed (at + 5 + length (written change)) changes
 
--- the place of the gate behind them
+-- the place of the gate after them
 abbrev pub end_of : ℕ → List Change → ℕ
 end_of at [] = at
 end_of at (change ∷ changes) = end_of (at + 5 + length (written change)) changes

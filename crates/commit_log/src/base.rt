@@ -2,17 +2,17 @@
 
 use crate::change::Format;
 
-/// What an identifier has.
+/// The state of an identifier.
 #[derive(Debug, PartialEq, Eq, Drop)]
 pub enum BaseState {
     /// A structure, by its text.
     Live { format: Format, text: Vec<u8> },
-    /// None any more.
+    /// No structure any more.
     Withdrawn,
 }
 
-/// What an identifier has at the base's version, and the version of the commit that made it so. An identifier is 1 to
-/// 999,999,999 where an entry is read.
+/// The state of an identifier at the base's version, and the version of the commit that made it so. In an entry that
+/// was read, the identifier is 1 to 999,999,999.
 #[derive(Debug, PartialEq, Eq, Drop)]
 pub struct BaseEntry {
     pub id: u32,

@@ -17,8 +17,8 @@ use journal_core::{Journal, LoadFault};
 use std::alloc::Global;
 
 /// The entries of all base records that are left, each with the place of its record. Their identifiers ascend, and each
-/// version is 1 to that of the base. The commits may then be read. After a fault, want of memory too, the journal
-/// stands at some base record, and is loaded anew.
+/// version is 1 to that of the base. The commits may then be read. After a fault, want of memory too, the journal is at
+/// some base record, and is loaded anew.
 pub fn read_base<D: Disk>(
     alloc: Global,
     journal: &mut Journal<D>,
@@ -65,8 +65,8 @@ pub fn read_base<D: Disk>(
     }
 }
 
-// The entry of the base record at which the journal stands, which it passes, and its place. It may follow one of the
-// identifier `last`. `None` where no base record is left.
+// Passes the next base record, and returns its entry and its place. The entry may follow one of the identifier `last`.
+// `None` if no base record is left.
 fn next_entry<D: Disk>(
     alloc: Global,
     journal: &mut Journal<D>,
@@ -123,7 +123,7 @@ fn next_entry<D: Disk>(
     }
 }
 
-// Whether an entry may follow one of the identifier `last` in a base of this version.
+// True if an entry may follow one of the identifier `last` in a base of this version.
 fn follows(entry: &BaseEntry, last: u32, version: u32) -> bool
     requires { entry.now.id ≤ 999999999 }
     ensures yes { result ≡ true → Follows version last (entry_of entry.now) }

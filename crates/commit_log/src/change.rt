@@ -1,15 +1,15 @@
 //! A change as it is written in a journal.
 
-/// How a structure's text is written.
+/// The format of a structure's text.
 #[derive(Clone, Copy, Debug, PartialEq, Eq)]
 pub enum Format {
     /// A SMILES, without an end mark.
     Smiles,
-    /// A molfile, each line of which ends in one LF.
+    /// A molfile. Each of its lines ends in one LF.
     Molfile,
 }
 
-/// A change. An identifier is 1 to 999,999,999 where a change is read.
+/// A change. In a change that was read, the identifier is 1 to 999,999,999.
 #[derive(Debug, PartialEq, Eq, Drop)]
 pub enum Wire {
     /// A structure comes under a new identifier.
@@ -18,7 +18,7 @@ pub enum Wire {
         format: Format,
         text: Vec<u8>,
     },
-    /// A structure takes the place of the one under its identifier.
+    /// A structure replaces the one under its identifier.
     Revise {
         id: u32,
         format: Format,

@@ -1,4 +1,4 @@
-//! What bytes are a log of, as laws of any bytes.
+//! Laws of logs, for any bytes.
 
 ghost use Rattle.std.specs.Prelude.{◌≡◌, ◌++◌, [], ℕ, List};
 ghost use Rattle.std.specs.List.{AllByRecursion};

@@ -1,7 +1,7 @@
-//! The commits of a journal: a change is written as one payload, and read back from it.
-//! `decode` gives a change exactly where the payload is written so. `read_all` gives every commit up to the first gate
-//! that is not open, or the place where the file is damaged. In front of the commits of format 2 stands a base, whose
-//! entries `encode_base`, `decode_base` and `read_base` write and read alike. It stands on `journal_core`.
+//! The commits of a journal: a change is written as one payload, and read back from it. `decode` gives a change exactly
+//! if the payload is written so. `read_all` gives every commit up to the first gate that is not open, or the place of
+//! damage. Before the commits of format 2 is a base. `encode_base` writes its entries; `decode_base` and `read_base`
+//! read them. It uses `journal_core`.
 #![tactic(auto)]
 
 mod base;

@@ -15,8 +15,8 @@ use disk_edge::Disk;
 use journal_core::{Journal, LoadFault};
 use std::alloc::Global;
 
-/// All commits from the record on at which a journal stands, up to the first gate that is not open. It may then be
-/// appended to. After a fault, want of memory too, it stands at some record, and is loaded anew.
+/// All commits from the journal's place on, up to the first gate that is not open. It may then be appended to. After a
+/// fault, want of memory too, the journal is at some record, and is loaded anew.
 pub fn read_all<D: Disk>(alloc: Global, journal: &mut Journal<D>) -> Result<Vec<Commit>, LoadFault>
     requires settled { journal.old.doubt ≡ false }
     requires based { journal.old.left ≡ 0 }
@@ -55,8 +55,8 @@ pub fn read_all<D: Disk>(alloc: Global, journal: &mut Journal<D>) -> Result<Vec<
     }
 }
 
-/// The commit at which a journal stands, which it passes. `None` at a gate that is not open: the journal may then be
-/// appended to. After a fault, want of memory too, it stands at some record, and is loaded anew.
+/// Passes the next commit, and returns it. `None` at a gate that is not open: the journal may then be appended to.
+/// After a fault, want of memory too, the journal is at some record, and is loaded anew.
 pub fn next_commit<D: Disk>(
     alloc: Global,
     journal: &mut Journal<D>,

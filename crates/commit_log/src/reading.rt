@@ -11,8 +11,8 @@ use crate::base::{BaseEntry, BaseState, LIVE, WITHDRAWN};
 use crate::change::{Format, GREATEST_ID, REGISTER, REVISE, WITHDRAW, Wire};
 use std::alloc::{AllocError, Global};
 
-/// The change that the payload is written for. `None` where no change with an identifier of 1 to 999,999,999 is
-/// written so.
+/// The change that the payload is written for. `None` if no change with an identifier of 1 to 999,999,999 is written
+/// so.
 pub fn decode(alloc: Global, payload: &[u8]) -> Result<Option<Wire>, AllocError>
     ensures some { IfOk result (λ found. IfSome found
         (λ wire. IsInRange (change_of wire) × (payload.now ≡ written (change_of wire)))) }
@@ -38,7 +38,7 @@ pub fn decode(alloc: Global, payload: &[u8]) -> Result<Option<Wire>, AllocError>
     }
 }
 
-/// The entry of a base that the payload is written for. `None` where no entry with an identifier of 1 to 999,999,999 is
+/// The entry of a base that the payload is written for. `None` if no entry with an identifier of 1 to 999,999,999 is
 /// written so.
 pub fn decode_base(alloc: Global, payload: &[u8]) -> Result<Option<BaseEntry>, AllocError>
     ensures some { IfOk result (λ found. IfSome found
@@ -72,7 +72,7 @@ pub fn decode_base(alloc: Global, payload: &[u8]) -> Result<Option<BaseEntry>, A
     }
 }
 
-// The identifier of the first four bytes, and what is behind them.
+// The identifier of the first four bytes, and the bytes after them.
 fn id_at(bytes: &[u8]) -> Option<(u32, &[u8])>
     ensures some { IfSome result (λ found. (1 ≤ found.0) × (found.0 ≤ 999999999)
         × (bytes.now ≡ to_le_bytes w32 found.0 ++ found.1.now)) }
@@ -86,7 +86,7 @@ fn id_at(bytes: &[u8]) -> Option<(u32, &[u8])>
     Some((id, rest))
 }
 
-// The number of the first four bytes, the lowest first, and what is behind them.
+// The number of the first four bytes (little-endian), and the bytes after them.
 fn number_at(bytes: &[u8]) -> Option<(u32, &[u8])>
     ensures some { IfSome result (λ found. (found.0 < 2 ^ 32)
         × (bytes.now ≡ to_le_bytes w32 found.0 ++ found.1.now)) }
@@ -97,7 +97,7 @@ fn number_at(bytes: &[u8]) -> Option<(u32, &[u8])>
     Some((u32::from_le_bytes(*field), rest))
 }
 
-// The format of the first byte, and a copy of the text behind it.
+// The format of the first byte, and a copy of the text after it.
 fn text_of(alloc: Global, bytes: &[u8]) -> Result<Option<(Format, Vec<u8>)>, AllocError>
     ensures some { IfOk result (λ found. IfSome found
         (λ written. bytes.now ≡ format_byte written.0 ∷ written.1.items)) }

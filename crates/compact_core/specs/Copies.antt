@@ -1,4 +1,4 @@
--- What a running copy has, and what a disk has that is the complete copy or not open. For callers.
+-- The bytes of a running copy, and of a disk that is the complete copy or not open. For callers.
 use Rattle.std.specs.Prelude.{◌≡◌, ◌≢◌, ◌⊎◌, ◌+◌, ℕ, List, [], ◌∷◌, ◌++◌, drop, length, take, Some}
 use Rattle.std.specs.List.{AllByRecursion}
 use Rattle.disk_edge.specs.Disk.{DiskModel, Exactly, IfTold}
@@ -8,37 +8,37 @@ use Rattle.journal_core.specs.declared.format.TheConstants.{OPEN}
 use Rattle.journal_core.specs.declared.header.Header.{Header}
 use Rattle.compact_core.specs.Carrying.{Carrying}
 
--- the content, where the disk tells it, is the only image
+-- the content, if it is known, is the only image
 abbrev pub IsSynced : {D : Type 0} → DiskModel D → D → Type 0
 IsSynced model disk = IfTold (model.content disk) (λ l. Exactly l (model.images disk))
 
--- these bytes are at a place, and more may be behind them
+-- these bytes are at a place, and more may follow them
 abbrev pub IsAt : ℕ → List ℕ → List ℕ → Type 0
 IsAt place bytes l = (rest : List ℕ) × (drop place l ≡ bytes ++ rest)
 
--- what stands behind the gate of the header
+-- the bytes after the gate of the header
 unfoldable pub tail_of : Header → List (List ℕ) → List (List ℕ) → List ℕ
 tail_of h base commits = (behind_gate h ++ base_records base) ++ records commits
 
--- A disk tells its content, which is these bytes behind a gate, and more; and in each image the gate is the same.
+-- A disk's content is known: a gate, these bytes, and more. In each image the gate is this one.
 pub record Stands {D : Type 0} (model : DiskModel D) (disk : D) (gate : ℕ) (tail : List ℕ) : Type 0 where
   pub rest : List ℕ
   pub is_told : model.content disk ≡ Some (gate ∷ (tail ++ rest))
   pub each : (c : List ℕ) → model.images disk c → take 1 c ≡ gate ∷ []
 
--- These bytes are behind a gate: those that were written stand on the disk, and the last of them are pending.
+-- These bytes follow a gate: the written ones are on the disk, and the last of them are pending.
 pub record Gathered {D : Type 0} (model : DiskModel D) (disk : D) (gate : ℕ) (tail pending : List ℕ) : Type 0 where
   pub written : List ℕ
   pub stands : Stands model disk gate written
   pub is : written ++ pending ≡ tail
 
--- The header stands behind a gate that is not open.
+-- The header follows a gate that is not open.
 pub record Started {D : Type 0} (model : DiskModel D) (disk : D) (h : Header) : Type 0 where
   pub gate : ℕ
   pub shut : gate ≢ OPEN
   pub stands : Stands model disk gate (behind_gate h)
 
--- The copy has these base records and these commits so far, behind a gate that is not open.
+-- The copy has these base records and these commits so far, after a gate that is not open.
 pub record Copies {D : Type 0} (model : DiskModel D) (carry : Carrying D) (base commits : List (List ℕ))
     : Type 0 where
   pub gate : ℕ

@@ -1,6 +1,5 @@
-//! A running copy. The calls read in the order of an atomic change: the gate of the header is closed and synced; the
-//! copy is gathered and written behind it; the last of it is written with a closed gate, and all is synced; then the
-//! header's gate is opened.
+//! A running copy, an atomic change. First the gate of the header is closed and synced. Then the copy is gathered and
+//! written after it. The last of it is written with a closed gate, and all is synced. Then the header's gate is opened.
 
 ghost use Rattle.std.specs.Prelude.{◌≡◌, ◌<◌, ◌≤◌, ◌+◌, ◌^◌, ◌⊎◌, ◌++◌, [], ◌∷◌, ℕ, List, None, Some, true, false, length, OnOk, OnErr, IfOk, IfErr};
 ghost use Rattle.disk_edge.specs.Disk.{IfTold, Keeps, OnFailed, Counted, Faulted};
@@ -20,7 +19,7 @@ use std::alloc::{AllocError, Global};
 use std::marker::Model;
 use thiserror::Error;
 
-// What stands behind the gate of the header, before its numbers.
+// The bytes after the gate of the header, before its numbers.
 const SECOND_FORMAT: [u8; 7] = *b"CHEMDB2";
 
 /// Why a copy was not started.
@@ -46,7 +45,7 @@ pub enum FinishFault<D: Disk> {
 }
 
 /// A running copy on a disk that is shut. It has a header, as many base records as the header says, and then commits.
-/// The last of its bytes are pending: they wait in memory, behind those that were written.
+/// `pending` holds its last bytes in memory, after those that were written.
 #[derive(Drop)]
 pub struct Carry<D: Disk> {
     alloc: Global,
@@ -123,8 +122,8 @@ impl<D: Disk> Carry<D> {
         }
     }
 
-    /// Adds the next base record, a payload of 1 to 1,048,576 bytes. Fewer stand than the header says. It may wait in
-    /// memory, and is written with others. After a refusal the copy stands where it stood. The disk stays shut.
+    /// Adds the next base record, a payload of 1 to 1,048,576 bytes. Requires that the header's number is not reached.
+    /// It may wait in memory, and is written with others. After a refusal the copy is as before. The disk stays shut.
     /// `Failed`: the disk failed, and counted a fault.
     pub fn put(&mut self, payload: &[u8]) -> Result<(), DiskFail>
         requires left { self.old.bases < self.old.header.base_count }
@@ -160,9 +159,9 @@ impl<D: Disk> Carry<D> {
         Ok(())
     }
 
-    /// Adds the next commit, a payload of 1 to 1,048,576 bytes, with an open gate. All base records stand. It may wait
-    /// in memory, and is written with others. After a refusal the copy stands where it stood. The disk stays shut.
-    /// `Failed`: the disk failed, and counted a fault.
+    /// Adds the next commit, a payload of 1 to 1,048,576 bytes, with an open gate, after all base records. It may wait
+    /// in memory, and is written with others. After a refusal the copy is as before. The disk stays shut. `Failed`: the
+    /// disk failed, and counted a fault.
     pub fn add(&mut self, payload: &[u8]) -> Result<(), DiskFail>
         requires whole { self.old.bases ≡ self.old.header.base_count }
         requires some { 1 ≤ length payload.now }
@@ -196,9 +195,9 @@ impl<D: Disk> Carry<D> {
         Ok(())
     }
 
-    /// Ends the copy, all of whose base records stand. What is pending is written with the closed gate. At `Ok` the
-    /// disk has all of the copy, each image is the complete one, and the journal may be appended to behind it. At every
-    /// moment each image is that or not open.
+    /// Ends a copy that has all its base records. The pending bytes are written with the closed gate. At `Ok` the disk
+    /// has all of the copy, each image is the complete one, and the journal may be appended to. At every moment each
+    /// image is the complete one or not open.
     pub fn finish(self) -> Result<Journal<D>, FinishFault<D>>
         requires whole { self.bases ≡ self.header.base_count }
 
@@ -245,14 +244,14 @@ impl<D: Disk> Carry<D> {
         }
     }
 
-    /// The length of the copy so far, with what is pending. Takes no memory.
+    /// The length of the copy so far, with the pending bytes. Takes no memory.
     pub fn place(&self) -> u64
         ensures { result ≡ self.now.place }
     {
         self.place
     }
 
-    /// The disk, as it is, so shut. What is pending is dropped. Takes no memory.
+    /// The disk, still shut. The pending bytes are dropped. Takes no memory.
     pub fn into_disk(self) -> D
         ensures disk { result ≡ self.disk }
         ensures shut { (base commits : List (List ℕ))
@@ -286,7 +285,7 @@ impl Carry<MemDisk> {
     }
 }
 
-// Shuts the disk, and writes the header behind its gate.
+// Shuts the disk, and writes the header after its gate.
 fn begin<D: Disk>(alloc: Global, disk: &mut D, header: Header) -> Result<(), DiskFail>
     ensures ok { OnOk result (IfTold (D.model.content disk.old)
         (λ _. Started D.model disk.new header)) }
@@ -311,7 +310,7 @@ fn begin<D: Disk>(alloc: Global, disk: &mut D, header: Header) -> Result<(), Dis
     extend(disk, 1, &bytes)
 }
 
-// The header behind its gate.
+// The header after its gate.
 fn header_bytes(alloc: Global, header: Header) -> Result<Vec<u8>, AllocError>
     ensures { IfOk result (λ bytes. bytes.items ≡ behind_gate header) }
 {

@@ -11,7 +11,7 @@ ghost use Rattle.compact_core.specs.Copies.{IsSynced};
 use disk_edge::{Disk, DiskFail};
 use journal_core::{CLOSED, OPEN};
 
-/// Closes the gate of a disk's header where it is open, and syncs. At `Ok` the disk is shut: no image of it is open. At
+/// Closes the gate of a disk's header if it is open, and syncs. At `Ok` the disk is shut: no image of it is open. At
 /// every moment each image that is open was one at entry. A refusal keeps each image that there was.
 pub fn shut<D: Disk>(disk: &mut D) -> Result<(), DiskFail>
     ensures ok { OnOk result
@@ -33,7 +33,7 @@ pub fn shut<D: Disk>(disk: &mut D) -> Result<(), DiskFail>
     close(disk, false)
 }
 
-/// The same, and with `fill` a disk without bytes gets a closed gate.
+/// As `shut`, and with `fill` a disk without bytes gets a closed gate.
 pub(crate) fn close<D: Disk>(disk: &mut D, fill: bool) -> Result<(), DiskFail>
     ensures synced { OnOk result (IsSynced D.model disk.new) }
     ensures closed { OnOk result (IfTold (D.model.content disk.new)
@@ -56,7 +56,7 @@ pub(crate) fn close<D: Disk>(disk: &mut D, fill: bool) -> Result<(), DiskFail>
     disk.sync()
 }
 
-// Writes a closed gate where the gate is open, and with `fill` where the disk has no bytes.
+// Writes a closed gate if the gate is open; with `fill`, also if the disk has no bytes.
 fn close_gate<D: Disk>(disk: &mut D, fill: bool) -> Result<(), DiskFail>
     ensures closed { OnOk result (IfTold (D.model.content disk.new)
         (λ l. (take 1 l ≢ OPEN ∷ []) × (fill ≡ true → 1 ≤ length l))) }
@@ -80,7 +80,7 @@ fn close_gate<D: Disk>(disk: &mut D, fill: bool) -> Result<(), DiskFail>
     }
 }
 
-// Whether the gate is open; with `fill`, also whether it is missing.
+// True if the gate is open; with `fill`, also if it is missing.
 fn must_close<D: Disk>(disk: &mut D, fill: bool) -> Result<bool, DiskFail>
     ensures open { IfOk result (λ yes. IfTold (D.model.content disk.old)
         (λ l. yes ≡ true → (take 1 l ≡ OPEN ∷ []) ⊎ (l ≡ []))) }

@@ -1,4 +1,4 @@
-//! Bytes are written behind those of a disk that stand behind one gate.
+//! Bytes are written after those of a disk that follow its one gate.
 
 ghost use Rattle.std.specs.Prelude.{◌≡◌, ◌<◌, ◌≤◌, ◌+◌, ◌^◌, ℕ, List, [], ◌∷◌, ◌++◌, take, length, Some, None, OnOk, OnErr};
 ghost use Rattle.disk_edge.specs.Disk.{IfTold, Keeps, OnFailed, Counted, Faulted};
@@ -9,7 +9,7 @@ ghost use Rattle.compact_core.specs.Copies.{Gathered, IsAt, IsSynced, Stands};
 use disk_edge::{Disk, DiskFail};
 use journal_core::CLOSED;
 
-/// Writes bytes at the end of what stands. It is not synced.
+/// Writes bytes at the end of the written ones. It is not synced.
 pub(crate) fn extend<D: Disk>(disk: &mut D, place: u64, bytes: &[u8]) -> Result<(), DiskFail>
     requires start { IfTold (D.model.content disk.old) (λ l. place ≤ length l) }
     requires end { place + length bytes.now < 2 ^ 63 }
@@ -40,7 +40,7 @@ pub(crate) fn extend<D: Disk>(disk: &mut D, place: u64, bytes: &[u8]) -> Result<
     disk.write_at(place, bytes)
 }
 
-/// Writes what is pending and a closed gate behind it, at the end of what stands, and syncs. `pending` stays as it was.
+/// Writes the pending bytes and then a closed gate, at the end of the written ones, and syncs. `pending` stays.
 pub(crate) fn seal<D: Disk>(disk: &mut D, place: u64, pending: &mut Vec<u8>) -> Result<(), DiskFail>
     requires start { IfTold (D.model.content disk.old)
         (λ l. place ≤ length l + length pending.old.items) }
@@ -73,7 +73,7 @@ pub(crate) fn seal<D: Disk>(disk: &mut D, place: u64, pending: &mut Vec<u8>) -> 
     disk.sync()
 }
 
-// Writes what is pending and a closed gate behind it in one call. It is not synced.
+// Writes the pending bytes and then a closed gate in one call. It is not synced.
 fn extend_closed<D: Disk>(disk: &mut D, place: u64, pending: &mut Vec<u8>) -> Result<(), DiskFail>
     requires start { IfTold (D.model.content disk.old)
         (λ l. place ≤ length l + length pending.old.items) }

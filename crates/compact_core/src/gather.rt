@@ -1,4 +1,4 @@
-//! Records gather in memory behind what was written, so that the disk gets many in one call.
+//! Records gather in memory after the written ones, so that the disk gets many in one call.
 
 ghost use Rattle.std.specs.Prelude.{◌≡◌, ◌<◌, ◌≤◌, ◌+◌, ◌^◌, ◌++◌, ◌∷◌, [], ℕ, List, None, length, take, OnOk};
 ghost use Rattle.std.specs.Vec.{vec_len, vec_capacity};
@@ -12,11 +12,11 @@ use crate::extend::extend;
 use disk_edge::{Disk, DiskFail};
 use journal_core::OPEN;
 
-// How many bytes gather before they are written. A longer record gathers alone.
+// The number of bytes that gather before they are written. A longer record gathers alone.
 const GATHERED: usize = 65_536;
 
-/// Makes room for `more` bytes behind what is pending. Where it would grow beyond `GATHERED`, it is written first, and
-/// its memory is kept. What a refused write did not write is pending still.
+/// Makes room for `more` bytes after the pending ones. If these would grow beyond `GATHERED`, they are written first,
+/// and their memory is kept. After a refused write the bytes that it did not write are still pending.
 pub(crate) fn make_room<D: Disk>(
     disk: &mut D,
     place: u64,
@@ -52,7 +52,7 @@ pub(crate) fn make_room<D: Disk>(
     Ok(())
 }
 
-/// Appends a payload behind its length to what is pending. There is room for it.
+/// Appends a payload after its length to the pending bytes. There is room for it.
 pub(crate) fn push_base(pending: &mut Vec<u8>, payload: &[u8])
     requires few { IsShort payload.now }
     requires room { vec_len pending.old + 4 + length payload.now ≤ vec_capacity pending.old }
@@ -62,7 +62,7 @@ pub(crate) fn push_base(pending: &mut Vec<u8>, payload: &[u8])
     append(pending, payload);
 }
 
-/// The same behind an open gate.
+/// As `push_base`, after an open gate.
 pub(crate) fn push_commit(pending: &mut Vec<u8>, payload: &[u8])
     requires few { IsShort payload.now }
     requires room { vec_len pending.old + 5 + length payload.now ≤ vec_capacity pending.old }

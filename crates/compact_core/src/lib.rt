@@ -2,7 +2,7 @@
 //!
 //! Until a copy is whole and synced, its disk is *shut*: no image of it is open, whatever a crash leaves. `Carry` is
 //! the running copy, and `Carry::finish` makes it a journal. Its records are gathered in memory, and many are written
-//! at once. `shut` ends a finish that is in doubt. It stands on `journal_core`.
+//! at once. `shut` ends a finish that is in doubt. It uses `journal_core`.
 #![tactic(auto)]
 
 mod carry;

@@ -1,4 +1,4 @@
--- A disk that keeps nothing: it tells nothing of its content, and never fails.
+-- A disk that keeps nothing: its content is not known, and it never fails.
 use Rattle.std.specs.Prelude.{◌≡◌, ◌≤◌, ℕ, Option, Some}
 use Rattle.std.proofs.Common.{arith}
 use Rattle.disk_edge.specs.Disk.{DiskModel}

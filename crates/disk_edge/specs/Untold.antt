@@ -1,4 +1,4 @@
--- A disk that tells nothing of its content: any image may be left, at any moment, and its clock stands still.
+-- A disk whose content is not known: any image may be left, at any moment, and its clock does not move.
 use Rattle.std.specs.Prelude.{◌⊎◌, ◌≤◌, ℕ, List, Option, None}
 use Rattle.std.proofs.Common.{inl}
 use Rattle.disk_edge.specs.Disk.{DiskModel}

@@ -1,5 +1,5 @@
-//! A disk, as a journal sees it: what a read gives, and which images a crash may leave, now and at each moment
-//! from one time of its clock to another. Where the disk tells no content, the clauses on content say nothing.
+//! A disk, as a journal sees it: its content, and the images that a crash may leave, now and at each moment between two
+//! times of its clock. If the content is not known, the clauses on content say nothing.
 
 ghost use Rattle.std.specs.Prelude.{◌≡◌, ◌≢◌, ◌⊎◌, ◌<◌, ◌≤◌, ◌^◌, ◌+◌, ℕ, List, Option, Some, length, take, drop, OnOk, IfOk};
 ghost use Rattle.disk_edge.specs.declared.disk.DiskFail.TheVariants.{NoMemory};
@@ -35,11 +35,11 @@ impl<T: Drop> From<AllocFailed<T>> for DiskFail {
     }
 }
 
-/// A disk. Between two syncs each range that was written, or was to be, and the part past the old end may hold any
-/// bytes after a crash; bytes outside stay. The length after a crash is that of the last sync, or any greater one up to
-/// the greatest end of a write since. After a sync that succeeds, a crash leaves what a read gives.
+/// A disk. Between two syncs, each range that was written, or was to be, may hold any bytes after a crash. So may the
+/// part past the old end. Bytes outside stay. The length after a crash is that of the last sync, or a greater one, up
+/// to the greatest end of a write since. After a sync that succeeds, a crash leaves the content.
 pub trait Disk {
-    /// What a read gives, which images a crash may leave, now and at each moment, and how many faults there were.
+    /// The content of a disk, the images that a crash may leave, now and at each moment, and the number of faults.
     ghost model: { DiskModel Self };
 
     /// The length.
@@ -66,8 +66,8 @@ pub trait Disk {
         ensures held { model.faults self.new < 2 ^ 64 }
         ensures count { Counted model self.old self.new };
 
-    /// Writes over what is there, and past the end. Until a sync succeeds, a crash may leave any bytes in the
-    /// range, also where the write failed.
+    /// Writes over the bytes from `at` on, and past the end. Until a sync succeeds, a crash may leave any bytes in the
+    /// range, even if the write failed.
     fn write_at(&mut self, at: u64, bytes: &[u8]) -> Result<(), DiskFail>
         requires start { IfTold (model.content self.old) (λ l. at ≤ length l) }
         requires end { at + length bytes.now < 2 ^ 63 }
@@ -94,7 +94,7 @@ pub trait Disk {
         ensures held { model.faults self.new < 2 ^ 64 }
         ensures count { Counted model self.old self.new };
 
-    /// After a sync that succeeds a crash leaves what a read gives.
+    /// After a sync that succeeds a crash leaves the content.
     fn sync(&mut self) -> Result<(), DiskFail>
         ensures synced { OnOk result
             (IfTold (model.content self.old) (λ l. Exactly l (model.images self.new))) }
@@ -108,12 +108,12 @@ pub trait Disk {
         ensures held { model.faults self.new < 2 ^ 64 }
         ensures count { Counted model self.old self.new };
 
-    /// What a read gives is one of the images.
+    /// The content is one of the images.
     ghost content_is_image: { (d : Self) (l : List ℕ)
         → model.content d ≡ Some l → model.images d l };
 
-    /// A place at which an image has another byte than a read gives, or has one where a read gives none, or the other
-    /// way round, was written, or was to be, and not synced: it may hold any byte.
+    /// An image and the content differ at a place, or one of them ends before it. Then the place was written, or was to
+    /// be, and not synced: it may hold any byte.
     ghost loose: { (d : Self) (l c e : List ℕ) (at : ℕ) → model.content d ≡ Some l
         → model.images d c → take 1 (drop at c) ≢ take 1 (drop at l)
         → Torn at 1 c e → model.images d e };

@@ -1,5 +1,5 @@
-//! A file as a disk, the trusted edge: no contract says what std's files hold, so it tells nothing of its content.
-//! For contracts it is its count of faults.
+//! A file as a disk, the trusted edge: no contract knows the bytes of std's files, so its content is not known.
+//! Contracts see only its count of faults.
 
 ghost use Rattle.std.specs.Prelude.{◌≡◌};
 ghost use Rattle.disk_edge.specs.File as silent;
@@ -24,7 +24,7 @@ pub struct FileDisk {
     faults: u64,
 }
 
-// What a disk has of a file that could be opened.
+// A path that could be opened: its file, or nothing.
 #[derive(Drop)]
 enum Held {
     Open(File),
@@ -41,10 +41,10 @@ impl Model for FileDisk {
 }
 
 impl FileDisk {
-    /// The regular file of this path, for reading and writing, under an exclusive lock that the disk holds, and synced.
-    /// With `create` it is made where nothing is there. Where the path names something else, the file has a second name,
-    /// another holds the lock, the sync failed, or a standard stream is closed, so that the file would stand for it, each
-    /// call of the disk fails; no byte of anything was changed then.
+    /// The regular file of this path, for reading and writing, synced, under an exclusive lock that the disk holds.
+    /// With `create` it is made if nothing is there. If the path names something else, the file has a second name,
+    /// another holds the lock, or the sync failed, each call of the disk fails. So it is if a standard stream is
+    /// closed, since the file would take its place. No byte of anything was changed then.
     pub fn at<R: Files<File = File>>(rt: &R, path: &str, create: bool) -> FileDisk
         ensures { result ≡ 0 }
     {
@@ -56,8 +56,8 @@ impl FileDisk {
         FileDisk::holding(file.map(Held::Open))
     }
 
-    /// The file of this path where something is there, as `at` gives it. Else a disk without bytes, at which each read
-    /// and each write fails.
+    /// The file of this path, as by `at`, if something is there. Else a disk without bytes, at which each read and each
+    /// write fails.
     pub fn if_there<R: Files<File = File>>(rt: &R, path: &str) -> FileDisk
         ensures { result ≡ 0 }
     {
@@ -76,8 +76,8 @@ impl FileDisk {
         FileDisk::holding(None)
     }
 
-    /// Writes the byte at `place` again, with the value that a read gives. The next sync then writes its page, even if the
-    /// system took the page for written when a sync of it failed.
+    /// Writes the byte at `place` again, with the value that a read gives. The next sync then writes its page, even if
+    /// the system took the page for written when a sync of it failed.
     pub fn write_again(&mut self, place: u64) -> Result<(), DiskFail>
         ensures { silent.Counted result self.old self.new }
     {
@@ -105,12 +105,12 @@ impl FileDisk {
         }
     }
 
-    // What there is of the file, as long as no sync of it failed.
+    // The file, as long as no sync of it failed.
     fn usable(&self) -> Option<&Held> {
         if self.lost { None } else { self.file.as_ref() }
     }
 
-    // What a call gave, and a fault where it gave nothing.
+    // The result of a call; if it is missing, a fault is counted.
     fn counted<T: Drop>(&mut self, given: Option<T>) -> Result<T, DiskFail>
         ensures { silent.Counted result self.old self.new }
     {
@@ -177,8 +177,9 @@ fn found<R: Files<File = File>>(rt: &R, path: &str) -> Option<File> {
     locked(rt, path, file)
 }
 
-// The file of this path, which is made where nothing is there, also no link. A file without bytes may have been made by
-// a program that was stopped then, so its folder is synced too: before the first byte is written the name is kept.
+// The file of this path, which is made if nothing is there, not even a link. A file without bytes may be one that
+// another program made before it was stopped. So its folder is synced too: its name is kept before the first byte is
+// written.
 fn found_or_made<R: Files<File = File>>(rt: &R, path: &str) -> Option<File> {
     if fs::symlink_metadata(rt, path).is_err() {
         return made(rt, path);
@@ -190,7 +191,7 @@ fn found_or_made<R: Files<File = File>>(rt: &R, path: &str) -> Option<File> {
     Some(file)
 }
 
-// A new file of this path. Its folder is opened before, so that no file is made where a standard stream is closed.
+// A new file of this path. Its folder is opened before, so that no file is made if a standard stream is closed.
 fn made<R: Files<File = File>>(rt: &R, path: &str) -> Option<File> {
     let folder = folder_at(rt, folder_of(path))?;
     let file = File::create_new(rt, path).ok()?;
@@ -220,8 +221,9 @@ fn folder_of(path: &str) -> &str {
     }
 }
 
-// The file, where it is a regular one, stands apart from the standard streams, its lock was free, the path still names
-// it, no hard link gives it a second name, by which it would have another second file, and it could be synced.
+// Locks and syncs the file. `None` if it is not regular, shares a descriptor with a standard stream, is locked, or
+// could not be synced. Also `None` if the path names another file, or a hard link gives it a second name, and so a
+// second other file.
 fn locked<R: Files<File = File>>(rt: &R, path: &str, file: File) -> Option<File> {
     if !is_apart(&file) || file.try_lock().is_err() {
         return None;
@@ -235,18 +237,18 @@ fn locked<R: Files<File = File>>(rt: &R, path: &str, file: File) -> Option<File>
     }
 }
 
-// The file, where what was written to it and not synced could be synced now.
+// The file, if its writes that were not synced could be synced now.
 fn settled(file: File) -> Option<File> {
     file.sync_all().ok()?;
     Some(file)
 }
 
-// Whether both are of one file.
+// True if both are of one file.
 fn is_same(a: &Metadata, b: &Metadata) -> bool {
     a.dev() == b.dev() && a.ino() == b.ino()
 }
 
-// Whether a file has none of the descriptors of the standard streams.
+// True if a file has none of the descriptors of the standard streams.
 fn is_apart(file: &File) -> bool {
     file.as_raw_fd() > 2
 }

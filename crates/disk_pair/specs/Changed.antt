@@ -1,4 +1,4 @@
--- Two disks of which one was changed. For callers.
+-- Two disks, one of which was changed. For callers.
 use Rattle.std.specs.Prelude.{Bool, false, not, true}
 use Rattle.disk_pair.specs.Term.{Paired}
 use Rattle.disk_pair.specs.declared.choice.Which.{Which}
@@ -15,7 +15,7 @@ abbrev pub changed_at : {D : Type 0} → Bool → (D → D) → Paired D → Pai
 changed_at true f pair = record pair { journal = record pair.journal { disk = f pair.journal.disk } }
 changed_at false f pair = record pair { other = changed_other f pair.other }
 
--- whether a disk is the current one: whether that is the second
+-- true if a disk is the current one; the flag says that the second is current
 abbrev pub is_current : Which → Bool → Bool
 is_current First second = not second
 is_current Second second = second

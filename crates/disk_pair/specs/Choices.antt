@@ -10,7 +10,7 @@ abbrev pub IsRead : Bool → List ℕ → List ℕ → Type 0
 IsRead false a b = ReadsFirst a b
 IsRead true a b = ReadsSecond a b
 
--- which of two disks is read, if any
+-- the one of two disks that is read, if any
 abbrev pub Chosen : Option Which → List ℕ → List ℕ → Type 0
 Chosen None a b = (IsOpen a → ⊥) × (IsOpen b → ⊥)
 Chosen (Some First) a b = IsRead false a b

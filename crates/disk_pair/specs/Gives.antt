@@ -1,4 +1,4 @@
--- What a call on two disks leaves, by its answer. For callers.
+-- The two disks after a call, by its answer. For callers.
 use Rattle.std.specs.Prelude.{◌≡◌, ◌⊎◌, [], Bool, Err, false, List, None, Ok, Option, Result, Some, true, ℕ}
 use Rattle.disk_edge.specs.Disk.{DiskModel, Faulted}
 use Rattle.journal_core.specs.declared.header.Header.{Header}
@@ -42,28 +42,28 @@ CopyGives (Err (DiskFault true)) Stands s copy = ⊥
 CopyGives (Err (DiskFault false)) Stands s copy = Stands (record s { copy = None })
 CopyGives (Err NoMemory) Stands s copy = Stands s
 
--- The copy is what two disks have, or its finish is in doubt, or it is given up, or goes on.
+-- The two disks have the copy, or its finish is in doubt, or it is given up, or goes on.
 abbrev pub FinishGives : Result (Unit {0}) PutFault → (State → Type 0) → State → History → Type 0
 FinishGives (Ok _) Stands s copy = Stands (record { now = copy; commit = None; finish = None; copy = None })
 FinishGives (Err (DiskFault true)) Stands s copy = Stands (record s { finish = Some copy; copy = None })
 FinishGives (Err (DiskFault false)) Stands s copy = Stands (record s { copy = None })
 FinishGives (Err NoMemory) Stands s copy = Stands s
 
--- how far the copy is after a call that adds to it
+-- the progress of the copy after a call that adds to it
 abbrev pub progress_after : Result (Unit {0}) PutFault → Option Progress → Option Progress → Option Progress
 progress_after (Ok _) old new = new
 progress_after (Err (DiskFault doubt)) old new = None
 progress_after (Err NoMemory) old new = old
 
--- Whether the journal is in doubt after a commit, also over a disk that tells no content: exactly where this commit is,
--- or an older one may be still.
+-- The doubt of the journal after a commit, also over a disk whose content is not known. It is true exactly if this
+-- commit is in doubt, or an older one may be still.
 abbrev pub DoubtAfter : Result (Unit {0}) PutFault → Bool → Bool → Type 0
 DoubtAfter (Ok _) old new = new ≡ false
 DoubtAfter (Err (DiskFault true)) old new = new ≡ true
 DoubtAfter (Err (DiskFault false)) old new = new ≡ true → old ≡ true
 DoubtAfter (Err NoMemory) old new = new ≡ true → old ≡ true
 
--- P holds where what was asked for is in doubt
+-- P holds if the request is in doubt
 abbrev pub OnDoubt : Result (Unit {0}) PutFault → Type 0 → Type 0
 OnDoubt (Ok _) P = Unit {0}
 OnDoubt (Err (DiskFault true)) P = P
@@ -76,15 +76,15 @@ OnFault (Ok _) P = Unit {0}
 OnFault (Err (DiskFault doubt)) P = P
 OnFault (Err NoMemory) P = Unit {0}
 
--- What each call keeps of both disks. Where it answers that a disk failed, one of them counted a fault.
+-- Facts that each call keeps of both disks. If it answers that a disk failed, one of them counted a fault.
 pub record PairGoes {D : Type 0} (model : DiskModel D) (result : Result (Unit {0}) PutFault) (old new : Paired D)
     : Type 0 where
   pub a : Goes model (disk_a old) (disk_a new)
   pub b : Goes model (disk_b old) (disk_b new)
   pub cause : OnFault result (Faulted model (disk_a old) (disk_a new) ⊎ Faulted model (disk_b old) (disk_b new))
 
--- What a call on the other disk alone leaves: the current disk and its journal are as they were, and a crash at each
--- moment of the call leaves a history that may be there.
+-- A call on the other disk alone keeps the current disk and its journal. A crash at each moment of the call leaves a
+-- possible history.
 pub record CurrentStays {D : Type 0} (model : DiskModel D) (old new : Paired D) : Type 0 where
   pub journal : new.journal ≡ old.journal
   pub second : new.second ≡ old.second

@@ -1,4 +1,4 @@
--- What an opening of two disks leaves. For callers.
+-- The two disks after an opening. For callers.
 use Rattle.std.specs.Prelude.{◌≡◌, [], Err, false, List, Ok, Result, Some, ℕ}
 use Rattle.disk_edge.specs.Disk.{DiskModel, IfTold}
 use Rattle.journal_core.specs.Fronts.{BeginsAt, IsHeader, IsPart, IsPeeked}
@@ -8,8 +8,8 @@ use Rattle.journal_core.specs.declared.faults.LoadFault.{LoadFault}
 use Rattle.disk_pair.specs.Term.{first_of}
 use Rattle.disk_pair.specs.declared.opening.Picked.{Picked}
 
--- A journal that was just opened, at its first base record, or where it has none, at its first commit. Where its disk
--- tells its content, its header was read there.
+-- A journal that was just opened, at its first base record, or at its first commit if it has no base. If its disk's
+-- content is known, its header was read there.
 pub record IsOpening {D : Type 0} (model : DiskModel D) (journal : Standing D) : Type 0 where
   pub range : IsHeader journal.header
   pub start : BeginsAt journal.header journal.place

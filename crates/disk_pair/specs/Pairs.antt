@@ -1,10 +1,10 @@
--- What the bytes of two disks open to. For callers.
+-- The history to which the bytes of two disks open. For callers.
 use Rattle.std.specs.Prelude.{◌≡◌, ◌⊎◌, ◌<◌, ◌≤◌, ◌++◌, ◌∷◌, [], Bool, false, true, List, Option, Some, ℕ}
 use Rattle.journal_core.specs.Fronts.{IsFront, IsOpenAt}
 use Rattle.journal_core.specs.Records.{Opens}
 use Rattle.journal_core.specs.declared.header.Header.{Header}
 
--- a history as a disk has it: what its header says, the base records' payloads, and the commits' payloads
+-- a history as a disk has it: its header, the base records' payloads, and the commits' payloads
 pub record History : Type 0 where
   pub header : Header
   pub base : List (List ℕ)
@@ -38,14 +38,14 @@ pub record PairOpens (h : History) (a b : List ℕ) : Type 0 where
 abbrev pub PairOpensTo : (History → Type 0) → List ℕ → List ℕ → Type 0
 PairOpensTo P a b = (h : History) × P h × PairOpens h a b
 
--- An image of the other disk is not read beside a current one of this generation: whether the current disk is the
--- second.
+-- An image of the other disk is not read beside a current one of this generation; the flag says that the second disk is
+-- current.
 abbrev pub Loses : Bool → ℕ → List ℕ → Type 0
 Loses false g y = (k : ℕ) → IsOpenAt k y → k ≤ g
 Loses true g y = (k : ℕ) → IsOpenAt k y → k < g
 
--- The history that two disks have; the commit in doubt; the complete copy whose finish is in doubt; what a running copy
--- has so far.
+-- The history of two disks, the commit in doubt, the complete copy whose finish is in doubt, and the contents of a
+-- running copy so far.
 pub record State : Type 0 where
   pub now : History
   pub commit : Option (List ℕ)

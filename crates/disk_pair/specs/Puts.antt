@@ -1,4 +1,4 @@
--- What one call on one of the two disks leaves there. For private clauses alone.
+-- One of the two disks after one call on it. For private clauses alone.
 use Rattle.std.specs.Prelude.{◌≡◌, ◌⊎◌, ◌<◌, ◌++◌, Bool, Err, false, List, [], ◌∷◌, None, Ok, OnErr, OnOk, Option, Result, Some, true, ℕ}
 use Rattle.disk_edge.specs.Disk.{DiskModel, Faulted, IfTold, OnFailed}
 use Rattle.disk_edge.specs.Moments.{AtEachMoment}
@@ -36,17 +36,17 @@ ShowsDoubt front ps doubt image = Opens front ps image
 abbrev pub ShowsOne : List ℕ → List (List ℕ) → Option (List ℕ) → List ℕ → List ℕ → Type 0
 ShowsOne front ps doubt payload image = ShowsDoubt front ps doubt image ⊎ Opens front (ps ++ payload ∷ []) image
 
--- What an image of the other disk is: the copy whose finish is in doubt, or not read.
+-- An image of the other disk: it is the copy whose finish is in doubt, or is not read.
 abbrev pub IsOther : Bool → ℕ → Option History → List ℕ → Type 0
 IsOther second g finish y = ((v : History) × (finish ≡ Some v) × (g < v.header.generation) × OpensAs v y)
     ⊎ Loses second g y
 
--- so is each image at a moment of a call, where that disk tells its content
+-- so is each image at a moment of a call, if that disk's content is known
 abbrev pub OtherMoments : {D : Type 0} → DiskModel D → D → D → Bool → ℕ → Option History → Type 0
 OtherMoments model old new second g finish =
     IfTold (model.content new) (λ _. AtEachMoment model old new (IsOther second g finish))
 
--- What a call that ends a finish in doubt leaves of the other disk. A running copy goes on.
+-- The other disk after a call that ends a finish in doubt. A running copy goes on.
 pub record EndsFinish {D : Type 0} (model : DiskModel D) (result : Result (Unit {0}) DiskFail) (old new : Other D)
     : Type 0 where
   pub ok : OnOk result ((second : Bool) (g : ℕ) (finish copy : Option History)
@@ -59,7 +59,7 @@ pub record EndsFinish {D : Type 0} (model : DiskModel D) (result : Result (Unit 
   pub goes : Goes model (disk_of old) (disk_of new)
   pub cause : OnFailed result (Faulted model (disk_of old) (disk_of new))
 
--- what the other disk has after a start: B of the finish in doubt and the running copy
+-- the other disk after a start: B of the finish in doubt and the running copy
 abbrev pub BesideStart : Result (Unit {0}) PutFault → (Option History → Option History → Type 0) → Option History
     → Header → Type 0
 BesideStart (Ok _) B finish header = B None (Some (empty_copy header))
@@ -74,8 +74,8 @@ BesideCopy (Err (DiskFault true)) B old new = ⊥
 BesideCopy (Err (DiskFault false)) B old new = B None
 BesideCopy (Err NoMemory) B old new = B (Some old)
 
--- What a call that adds to a running copy leaves of it. A copy that has P gets longer, or is given up, or stays. At no
--- moment an image of its disk is read.
+-- A running copy after a call that adds to it. A copy that has P gets longer, or is given up, or stays. At no moment an
+-- image of its disk is read.
 pub record AddsTo {D : Type 0} (model : DiskModel D) (result : Result (Unit {0}) PutFault) (carry : Carrying D)
     (new : Other D) (P : History → Type 0) (longer : History → History) : Type 0 where
   pub gives : (second : Bool) (g : ℕ) (h : History) → P h → Carries model g carry h
@@ -96,8 +96,7 @@ abbrev pub after_finish : {D : Type 0} → Result (Standing D) (Other D × PutFa
 after_finish (Ok journal) = journal.disk
 after_finish (Err refused) = disk_of refused.0
 
--- the other disk where there is one; the current one stands in its place where there is none, which is never the case
--- between calls
+-- the other disk if there is one; the current one replaces it if it is missing, which is never the case between calls
 abbrev pub held : {D : Type 0} → D → Option (Other D) → Other D
 held current None = Idle current true
 held current (Some other) = other

@@ -7,8 +7,8 @@ use Rattle.journal_core.specs.declared.header.Header.{Header}
 use Rattle.disk_pair.specs.declared.other.Other.{Other}
 use Rattle.disk_pair.specs.declared.other.Other.TheVariants.{Idle, Copy}
 
--- The journal of the current disk; the other disk, which is idle, or has a running copy; whether the current disk is
--- the second one.
+-- The journal of the current disk, and the other disk, which is idle or has a running copy. `second`: the current disk
+-- is the second one.
 pub record Paired (D : Type 0) : Type 0 where
   pub journal : Standing D
   pub other : Other D
@@ -19,12 +19,12 @@ abbrev pub disk_of : {D : Type 0} → Other D → D
 disk_of (Idle disk doubtful) = disk
 disk_of (Copy carry) = carry.disk
 
--- whether a finish may be in doubt there
+-- true if a finish may be in doubt there
 abbrev pub is_doubtful : {D : Type 0} → Other D → Bool
 is_doubtful (Idle disk doubtful) = doubtful
 is_doubtful (Copy carry) = false
 
--- the first of two disks of which one is current
+-- the first of two disks, one of which is current
 abbrev pub first_of : {D : Type 0} → Bool → D → D → D
 first_of false current other = current
 first_of true current other = other
@@ -36,18 +36,18 @@ disk_a pair = first_of pair.second pair.journal.disk (disk_of pair.other)
 abbrev pub disk_b : {D : Type 0} → Paired D → D
 disk_b pair = first_of pair.second (disk_of pair.other) pair.journal.disk
 
--- how far a copy is: its header, its length so far, and how many base records it has
+-- the progress of a copy: its header, its length so far, and the number of its base records
 pub record Progress : Type 0 where
   pub header : Header
   pub place : ℕ
   pub bases : ℕ
 
--- how far the running copy is; none where the other disk is idle
+-- the progress of the running copy; `None` if the other disk is idle
 abbrev pub progress_of : {D : Type 0} → Other D → Option Progress
 progress_of (Idle disk doubtful) = None
 progress_of (Copy carry) = Some (record { header = carry.header; place = carry.place; bases = carry.bases })
 
--- how far it is with this many bytes and base records more
+-- the progress with this many bytes and base records more
 abbrev pub further : ℕ → ℕ → Option Progress → Option Progress
 further bytes bases None = None
 further bytes bases (Some p) =
@@ -73,25 +73,25 @@ abbrev pub HasRoom : Option Progress → Type 0
 HasRoom None = Unit {0}
 HasRoom (Some p) = p.place < 2 ^ 62
 
--- What each call keeps of a disk: which images there were at its moments that are past; a count of faults that does not
--- fall, and a bound that does not rise; and what is not told stays so.
+-- Facts that each call keeps of a disk. Its images at past moments are the same, its count of faults does not fall, and
+-- its bound does not rise. Unknown content stays unknown.
 pub record Goes {D : Type 0} (model : DiskModel D) (old new : D) : Type 0 where
   pub past : Keeps model old new
   pub count : Counted model old new
   pub untold : model.content old ≡ None → model.content new ≡ None
 
--- P of each image of the first disk at a moment of a call and each of the second disk at a moment of it, where both
--- disks tell their contents
+-- P of each image of the first disk and each of the second disk at moments of a call, if the contents of both disks are
+-- known
 abbrev pub AtEachPair : {D : Type 0} → DiskModel D → Paired D → Paired D → (List ℕ → List ℕ → Type 0) → Type 0
 AtEachPair model old new P = IfTold (model.content (disk_a new)) (λ _. IfTold (model.content (disk_b new)) (λ _.
     AtEachMoment model (disk_a old) (disk_a new) (λ x. AtEachMoment model (disk_b old) (disk_b new) (λ y. P x y))))
 
--- P of each two images that a crash now may leave, where both disks tell their contents
+-- P of each two images that a crash now may leave, if the contents of both disks are known
 abbrev pub OfEachPair : {D : Type 0} → DiskModel D → Paired D → (List ℕ → List ℕ → Type 0) → Type 0
 OfEachPair model pair P = IfTold (model.content (disk_a pair)) (λ _. IfTold (model.content (disk_b pair)) (λ _.
     (x y : List ℕ) → model.images (disk_a pair) x → model.images (disk_b pair) y → P x y))
 
--- P of some two images that a crash now may leave, where both disks tell their contents
+-- P of a pair of images that a crash now may leave, if the contents of both disks are known
 abbrev pub OfSomePair : {D : Type 0} → DiskModel D → Paired D → (List ℕ → List ℕ → Type 0) → Type 0
 OfSomePair model pair P = IfTold (model.content (disk_a pair)) (λ _. IfTold (model.content (disk_b pair)) (λ _.
     (x y : List ℕ) × model.images (disk_a pair) x × model.images (disk_b pair) y × P x y))

@@ -1,4 +1,4 @@
-//! Which of two disks is read.
+//! The choice of the disk that is read.
 
 ghost use Rattle.std.specs.Prelude.{List, ℕ};
 ghost use Rattle.journal_core.specs.Fronts.{IsPeeked};
@@ -13,8 +13,8 @@ pub enum Which {
     Second,
 }
 
-/// Which of two disks is read, by the header of each that is open: that of the greater generation, and the first where
-/// both are equal. `None` where neither is open.
+/// The one of two disks that is read, by the header of each that is open. It is that of the greater generation, and the
+/// first if both are equal. `None` if neither is open.
 pub(crate) fn choose(first: Option<Header>, second: Option<Header>) -> Option<Which>
     ensures { (a b : List ℕ) → IsPeeked first a → IsPeeked second b → Chosen result a b }
 {

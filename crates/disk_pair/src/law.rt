@@ -1,4 +1,4 @@
-//! What two disks open to.
+//! Laws of the history to which two disks open.
 
 ghost use Rattle.std.specs.Prelude.{◌≡◌, ◌⊎◌, ◌++◌, ◌∷◌, ℕ, List, None, Some};
 ghost use Rattle.std.specs.List.{AllByRecursion};
@@ -12,8 +12,8 @@ ghost use Rattle.disk_pair.specs.Term.{OfEachPair, OfSomePair};
 use crate::pair::Pair;
 use disk_edge::Disk;
 
-/// Two disks open to one history. Where one of them is open, one is read. What was written on one disk, behind which
-/// any bytes may stand, is read where the other one is not open.
+/// Two disks open to one history. If one of them is open, one is read. The text of a history on one disk, followed by
+/// any bytes, is read if the other disk is not open.
 pub fn a_pair_opens_one_way()
     ensures one_history { (h k : History) (a b : List ℕ) → PairOpens h a b → PairOpens k a b → h ≡ k }
     ensures some { (a b : List ℕ) → IsOpen a ⊎ IsOpen b → (c : List ℕ) × Picks a b c }
@@ -25,14 +25,14 @@ pub fn a_pair_opens_one_way()
         → PairOpens h a (prefix front h.commits ++ CLOSED ∷ rest) }
 {}
 
-/// Each two images that a crash now may leave open to one of the histories of the state that the pair stands for.
+/// Each two images that a crash now may leave open to one of the histories of the pair's state.
 pub fn a_crash_leaves_one<D: Disk>(_pair: &Pair<D>)
     ensures { (s : State) → StandsFor D.model _pair.now s
         → OfEachPair D.model _pair.now (PairOpensTo (MayShow s)) }
 {}
 
-/// A crash now may leave what is in doubt: some two images open with the commit in doubt, where no finish is in doubt
-/// too, and some two to the copy whose finish is in doubt.
+/// A crash now may leave a doubt. There are two images that open with the commit in doubt, if no finish is in doubt
+/// too. There are two that open to the copy whose finish is in doubt.
 pub fn a_crash_may_leave_a_doubt<D: Disk>(_pair: &Pair<D>)
     ensures commit { (s : State) (p : List ℕ) → StandsFor D.model _pair.now s → s.commit ≡ Some p
         → s.finish ≡ None → OfSomePair D.model _pair.now (PairOpens (with_commit s.now p)) }

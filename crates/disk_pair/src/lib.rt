@@ -1,10 +1,10 @@
 //! The two disks of a store. One of them is read, the current one: of two that are open the one of greater generation,
-//! and the first where both are equal. A commit is appended to it. A copy of the store is made on the other one, and
-//! once it is whole it is read in the place of the first: so a store gets rid of what it no longer needs.
+//! and the first if both are equal. A commit is appended to it. A copy of the store is made on the other one, and once
+//! it is whole it is read in place of the first. So a store drops the bytes that it no longer needs.
 //!
-//! At every moment of every call a crash leaves two disks that open to a history that may be there: that from before
-//! the call, with the commit in doubt or without; the copy whose finish is in doubt; or what the call makes. It knows
-//! payloads alone, and decodes none: what a copy is made of is said by the crates above.
+//! At every moment of every call a crash leaves two disks that open to a possible history. One is that from before the
+//! call, with the commit in doubt or without. Others are the copy whose finish is in doubt, and that which the call
+//! makes. The crate sees payloads alone, and decodes none. The crates above choose the contents of a copy.
 #![tactic(auto)]
 
 mod choice;

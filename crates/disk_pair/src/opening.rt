@@ -13,8 +13,8 @@ use disk_edge::{Disk, DiskFail};
 use journal_core::{Journal, LoadFault, peek_header};
 use std::alloc::Global;
 
-/// The journal of the disk that is read, at its first base record, or where it has none, at its first commit; the other
-/// disk; and whether the one that is read is the second of the two.
+/// The two disks at a load. `journal`: that of the disk that is read, at its first base record, or at its first commit
+/// if it has no base. `other`: the other disk. `second`: true if the second of the two disks is read.
 #[derive(Drop)]
 pub struct Picked<D: Disk> {
     pub journal: Journal<D>,
@@ -22,11 +22,10 @@ pub struct Picked<D: Disk> {
     pub second: bool,
 }
 
-/// Syncs two disks, and opens the journal of the one that is read: of two that are open the one of greater generation,
-/// and `a` where both are equal. Nothing is written. Takes no memory.
+/// Syncs two disks, and opens the journal of the one that is read. It is the one of greater generation of two that are
+/// open, and `a` if both are equal. Nothing is written. Takes no memory.
 ///
-/// `NotAStore`: neither disk is open. `Disk`: a disk failed, and counted a fault. The disks come back beside each
-/// fault.
+/// `NotAStore`: neither disk is open. `Disk`: a disk failed, and counted a fault. Each fault returns the disks.
 pub fn load<D: Disk>(alloc: Global, a: D, b: D) -> Result<Picked<D>, (LoadFault, D, D)>
     ensures picks { IfOk result (λ picked. IfTold (D.model.content a)
         (λ x. IfTold (D.model.content b) (λ y. IsRead picked.second x y))) }
@@ -91,7 +90,7 @@ fn open_picked<D: Disk>(
     }
 }
 
-/// Syncs both disks, and says which of them a load reads; `None` where neither is open. Nothing is written. Takes no
+/// Syncs both disks, and returns the one that a load reads; `None` if neither is open. Nothing is written. Takes no
 /// memory.
 ///
 /// `Failed`: a disk failed, and counted a fault.

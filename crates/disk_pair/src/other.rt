@@ -117,7 +117,7 @@ pub(crate) fn start<D: Disk>(
     }
 }
 
-/// Adds the next base record to a copy. Where the disk fails, the copy is given up.
+/// Adds the next base record to a copy. If the disk fails, the copy is given up.
 pub(crate) fn put_base<D: Disk>(carry: Carry<D>, payload: &[u8]) -> (Other<D>, Result<(), PutFault>)
     requires left { carry.bases < carry.header.base_count }
     requires some { 1 ≤ length payload.now }
@@ -141,7 +141,7 @@ pub(crate) fn put_base<D: Disk>(carry: Carry<D>, payload: &[u8]) -> (Other<D>, R
     }
 }
 
-/// Adds the next commit to a copy. Where the disk fails, the copy is given up.
+/// Adds the next commit to a copy. If the disk fails, the copy is given up.
 pub(crate) fn add<D: Disk>(carry: Carry<D>, payload: &[u8]) -> (Other<D>, Result<(), PutFault>)
     requires whole { carry.bases ≡ carry.header.base_count }
     requires some { 1 ≤ length payload.now }
@@ -177,7 +177,7 @@ fn given_up<D: Disk>(carry: Carry<D>) -> Other<D>
     }
 }
 
-/// Ends a copy that lacks nothing. Where the disk fails, it is given up. Where memory runs out, it goes on.
+/// Ends a copy that lacks nothing. If the disk fails, it is given up. If memory runs out, it goes on.
 pub(crate) fn finish<D: Disk>(carry: Carry<D>) -> Result<Journal<D>, (Other<D>, PutFault)>
     requires whole { carry.bases ≡ carry.header.base_count }
 

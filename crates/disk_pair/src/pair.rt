@@ -1,6 +1,5 @@
-//! Two disks on which commits are made, and a copy on the one that is not read. `append` reads in the order of a commit
-//! that no crash undoes: a finish that may be in doubt is ended first, since the copy lacks the commit; then the
-//! journal takes it.
+//! Two disks on which commits are made, and a copy on the one that is not read. `append` makes a commit that no crash
+//! undoes. First a finish that may be in doubt is ended, since the copy lacks the commit; then the journal takes it.
 
 ghost use Rattle.std.specs.Prelude.{◌≡◌, ◌<◌, ◌≤◌, ◌+◌, ◌^◌, ◌⊎◌, [], Option, false, true, Some, None, length, not, is_some, OnErr, OnOk};
 ghost use Rattle.journal_core.specs.Records.{IsShort};
@@ -23,7 +22,7 @@ use std::alloc::Global;
 use std::marker::Model;
 use std::mem;
 
-/// Two disks, of which one is current. Its journal may be appended to. A copy may run on the other one.
+/// Two disks, one of them current. Its journal may be appended to. A copy may run on the other one.
 #[derive(Drop)]
 pub struct Pair<D: Disk> {
     alloc: Global,
@@ -130,8 +129,8 @@ impl<D: Disk + Drop> Pair<D> {
         outcome
     }
 
-    /// Adds a base record to the running copy, a payload of 1 to 1,048,576 bytes. Where the disk fails, the copy is
-    /// given up, and its disk is not open. Where memory runs out, it goes on as it was.
+    /// Adds a base record to the running copy, a payload of 1 to 1,048,576 bytes. If the disk fails, the copy is given
+    /// up, and its disk is not open. If memory runs out, the copy goes on as it was.
     pub fn put_base(&mut self, payload: &[u8]) -> Result<(), PutFault>
         requires left { LacksBase (progress_of self.old.other) }
         requires some { 1 ≤ length payload.now }
@@ -155,8 +154,8 @@ impl<D: Disk + Drop> Pair<D> {
         outcome
     }
 
-    /// Adds a commit to the running copy, a payload of 1 to 1,048,576 bytes. All its base records stand. Where the disk
-    /// fails, the copy is given up, and its disk is not open. Where memory runs out, it goes on as it was.
+    /// Adds a commit to the running copy, a payload of 1 to 1,048,576 bytes. It has all its base records. If the disk
+    /// fails, the copy is given up, and its disk is not open. If memory runs out, the copy goes on as it was.
     pub fn add(&mut self, payload: &[u8]) -> Result<(), PutFault>
         requires based { IsBased (progress_of self.old.other) }
         requires some { 1 ≤ length payload.now }
@@ -181,8 +180,8 @@ impl<D: Disk + Drop> Pair<D> {
     }
 
     /// Ends the running copy, which has all its base records, and the commits that were made meanwhile. At `Ok` its
-    /// disk is the current one, and the other one is idle: each crash from then on leaves the copy. Where the disk
-    /// fails, the copy is given up; with `doubt` a crash may leave it. Where memory runs out, it goes on as it was.
+    /// disk is the current one, and the other one is idle: no later crash loses the copy. If the disk fails, the copy
+    /// is given up; with `doubt` a crash may leave it. If memory runs out, the copy goes on as it was.
     pub fn finish(&mut self) -> Result<(), PutFault>
         requires based { IsBased (progress_of self.old.other) }
 
@@ -229,14 +228,14 @@ impl<D: Disk + Drop> Pair<D> {
         }
     }
 
-    /// Whether a copy runs. Takes no memory.
+    /// True if a copy runs. Takes no memory.
     pub fn is_copying(&self) -> bool
         ensures { result ≡ is_some (progress_of self.now.other) }
     {
         matches!(self.other, Some(Other::Copy(_)))
     }
 
-    /// What the current disk says of itself. Takes no memory.
+    /// The header of the current disk. Takes no memory.
     pub fn header(&self) -> Header
         ensures { result ≡ self.now.journal.header }
     {
@@ -274,7 +273,7 @@ impl<D: Disk + Drop> Pair<D> {
 }
 
 impl Pair<MemDisk> {
-    /// `calls` calls of a disk pass, and then each fails. Takes no memory.
+    /// The next `calls` calls of a disk pass, and each later one fails. Takes no memory.
     pub fn stop_after(&mut self, disk: Which, calls: u64)
         ensures { self.new ≡ changed disk (λ d. record d {
           failures = record d.failures { passes = Some calls };

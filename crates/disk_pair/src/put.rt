@@ -13,7 +13,7 @@ use crate::fault::PutFault;
 use disk_edge::{Disk, DiskFail};
 use journal_core::{AppendFault, Journal};
 
-/// Appends a payload. What was in doubt is ended first, if anything was.
+/// Appends a payload. A doubt is ended first, if there is one.
 pub(crate) fn put<D: Disk>(journal: &mut Journal<D>, payload: &[u8]) -> Result<(), PutFault>
     requires ready { journal.old.ready ≡ true }
     requires some { 1 ≤ length payload.now }
@@ -48,7 +48,7 @@ pub(crate) fn put<D: Disk>(journal: &mut Journal<D>, payload: &[u8]) -> Result<(
     }
 }
 
-// Ends the doubt, where there is one.
+// Ends the doubt, if there is one.
 fn settle<D: Disk>(journal: &mut Journal<D>) -> Result<(), DiskFail>
     requires ready { journal.old.ready ≡ true }
 

@@ -1,4 +1,4 @@
--- A drill: what is done with a world from its making on, reopenings included. For callers.
+-- A drill: the events of a world from its making on, reopenings included. For callers.
 use Rattle.std.specs.Prelude.{◌≡◌, ◌+◌, ◌++◌, ◌-◌, ◌<◌, ◌≤◌, ◌^◌, Bool, List, [], Some, false, true, ℕ}
 use Rattle.disk_edge.specs.Medium.{Medium, model}
 use Rattle.disk_pair.specs.declared.choice.Which.{Which}
@@ -14,9 +14,9 @@ use Rattle.store_disk.specs.Stored.{Stretches}
 use Rattle.drill_core.specs.Faults.{CanCount, disk_faults, failed}
 use Rattle.drill_core.specs.Worlds.{HasNoFailures, Reopens, bounds_of, failing, stopping}
 
--- All steps so far are a run, to a state for which the world stands. In the last part of them, since the making or the
--- last reopening, a stop was set on either disk or none, and so many failures on both together; each answer that a disk
--- failed stands for a call of one of them that failed.
+-- All steps so far are a run, to a state of the world. `part` is their last part, since the making or the last
+-- reopening. In it a stop was set on either disk if `stopped`, and `fails` failures on both together. Each answer that
+-- a disk failed had a failed call of one of them.
 pub record IsDrill (world : StoreTerm Medium) (first now : State) (steps part : List Step) (stopped : Bool) (fails : ℕ)
     : Type 0 where
   pub run : IsRun first steps now

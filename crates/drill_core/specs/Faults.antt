@@ -1,4 +1,4 @@
--- How often a call was answered that the disk failed. For callers.
+-- The number of calls that were answered that the disk failed. For callers.
 use Rattle.std.specs.Prelude.{◌+◌, ◌-◌, ◌<◌, ◌≤◌, ◌^◌, Bool, List, count_by, false, true, ℕ}
 use Rattle.disk_edge.specs.Medium.{Medium, model}
 use Rattle.disk_pair.specs.Term.{disk_a, disk_b}
@@ -16,7 +16,7 @@ is_disk_fault _ = false
 abbrev pub disk_faults : List Step → ℕ
 disk_faults steps = count_by (λ x. is_disk_fault x.reply) steps
 
--- how many calls of each disk have failed, and of both
+-- the number of failed calls of each disk, and of both
 abbrev pub failed_a : StoreTerm Medium → ℕ
 failed_a store = (disk_a store.pair).failures.count
 

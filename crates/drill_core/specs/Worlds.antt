@@ -1,4 +1,4 @@
--- What is set on a world's disks, what a reopening makes of them, and what a world always is. For callers but for the
+-- The failures set on a world's disks, the world after a reopening, and facts of each world. For callers but for the
 -- last.
 use Rattle.std.specs.Prelude.{◌≡◌, ◌≤◌, List, Option, Some, ℕ}
 use Rattle.disk_edge.specs.Disk.{Exactly}
@@ -34,7 +34,7 @@ stopping disk store calls = with_failures disk store (λ f. record f { passes = 
 abbrev pub bounds_of : StoreTerm Medium → Option ℕ × Option ℕ
 bounds_of store = (bound_of (disk_a store.pair).failures, bound_of (disk_b store.pair).failures)
 
--- none is set on either disk, and none ever came
+-- no failure is set on either disk, and none ever came
 abbrev pub HasNoFailures : StoreTerm Medium → Type 0
 HasNoFailures store =
     (bound_of (disk_a store.pair).failures ≡ Some 0) × (bound_of (disk_b store.pair).failures ≡ Some 0)
@@ -47,8 +47,8 @@ left_on disk image = image_of image disk.first disk.calls
 abbrev pub HasSynced : Medium → List ℕ → Type 0
 HasSynced disk bytes = (model.content disk ≡ Some bytes) × Exactly bytes (model.images disk)
 
--- From a state, a crash that leaves these bytes on disk `a` and these on disk `b`, and an opening, lead to a state for
--- which this store stands, at this version.
+-- A crash that leaves these bytes on disk `a` and these on disk `b`, and an opening, lead from a state to a state of
+-- this store, at this version.
 pub record Reopens (s : State) (a b : List ℕ) (store : StoreTerm Medium) (count : ℕ) : Type 0 where
   pub after : State
   pub stands : StandsInMemory store after
@@ -61,6 +61,6 @@ pub record Reopens (s : State) (a b : List ℕ) (store : StoreTerm Medium) (coun
   -- a Crash and an Open are a run, whatever their times
   pub run : (at begin end : Times) → IsRun s (reopening s after at begin end) after
 
--- The store stands for some state, with this limit. For private clauses alone.
+-- The store has a state with this limit. For private clauses alone.
 abbrev pub IsWorld : StoreTerm Medium → ℕ → Type 0
 IsWorld store commits = (1 ≤ commits) × ((s : State) × StandsInMemory store s × (s.limit ≡ commits))

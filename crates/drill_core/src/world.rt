@@ -1,5 +1,5 @@
-//! A store on two disks in memory that may be stopped at any call of either disk, and opened again. All that a crash
-//! leaves is what the disks hold; the store in memory is made anew.
+//! A store on two disks in memory that may be stopped at any call of either disk, and opened again. A crash leaves only
+//! the bytes of the disks; the store in memory is made anew.
 
 ghost use Rattle.std.specs.Prelude.{◌≡◌, ◌≤◌, ◌+◌, [], All, IfOk, IfSome, IsSomeAnd, length, None, OnErr, true};
 ghost use Rattle.std.specs.Arc.{arc_value};
@@ -57,7 +57,7 @@ impl Model for World {
 
 impl World {
     /// A store that was created on empty disks, with nothing committed and no failure set. It takes `commits` commits
-    /// in all, 1 to `MOST_COMMITS`. Fails where memory runs out.
+    /// in all, 1 to `MOST_COMMITS`. Fails if memory runs out.
     pub fn new(alloc: Global, commits: u32) -> Result<World, AllocError>
         requires some { 1 ≤ commits }
         requires few { commits ≤ MOST_COMMITS }
@@ -72,8 +72,8 @@ impl World {
         })
     }
 
-    /// `calls` calls of disk `a` pass, and then each fails, in the place of a stop that was set before. That disk then
-    /// tells no bound of its faults. Disk `b` is as before. Takes no memory.
+    /// The next `calls` calls of disk `a` pass, and each later one fails. This replaces a stop that was set before. The
+    /// bound of that disk's faults is then not known. Disk `b` is as before. Takes no memory.
     pub fn stop_after(&mut self, calls: u64)
         ensures stands { (s : State) → StandsInMemory self.old s → StandsInMemory self.new s }
         ensures only { self.new ≡ stopping First self.old calls }
@@ -83,9 +83,9 @@ impl World {
         self.store.stop_after(calls);
     }
 
-    /// The call of disk `a` of this number from now, counted from 1, fails, in the place of one that was set before and
-    /// has not failed yet. It raises the bound of that disk's faults by at most one, and not their count. Disk `b` is
-    /// as before. Takes no memory.
+    /// The call of disk `a` of this number from now, counted from 1, fails. It replaces one that was set before and has
+    /// not failed yet. It raises the bound of that disk's faults by at most one, and not their count. Disk `b` is as
+    /// before. Takes no memory.
     pub fn fail_once(&mut self, call: u64)
         ensures stands { (s : State) → StandsInMemory self.old s → StandsInMemory self.new s }
         ensures only { self.new ≡ failing First self.old call }
@@ -97,8 +97,8 @@ impl World {
         self.store.fail_once(call);
     }
 
-    /// `calls` calls of disk `b` pass, and then each fails, in the place of a stop that was set before. That disk then
-    /// tells no bound of its faults. Disk `a` is as before. Takes no memory.
+    /// The next `calls` calls of disk `b` pass, and each later one fails. This replaces a stop that was set before. The
+    /// bound of that disk's faults is then not known. Disk `a` is as before. Takes no memory.
     pub fn stop_after_b(&mut self, calls: u64)
         ensures stands { (s : State) → StandsInMemory self.old s → StandsInMemory self.new s }
         ensures only { self.new ≡ stopping Second self.old calls }
@@ -108,9 +108,9 @@ impl World {
         self.store.stop_after_b(calls);
     }
 
-    /// The call of disk `b` of this number from now, counted from 1, fails, in the place of one that was set before and
-    /// has not failed yet. It raises the bound of that disk's faults by at most one, and not their count. Disk `a` is
-    /// as before. Takes no memory.
+    /// The call of disk `b` of this number from now, counted from 1, fails. It replaces one that was set before and has
+    /// not failed yet. It raises the bound of that disk's faults by at most one, and not their count. Disk `a` is as
+    /// before. Takes no memory.
     pub fn fail_once_b(&mut self, call: u64)
         ensures stands { (s : State) → StandsInMemory self.old s → StandsInMemory self.new s }
         ensures only { self.new ≡ failing Second self.old call }
@@ -122,10 +122,10 @@ impl World {
         self.store.fail_once_b(call);
     }
 
-    /// A crash that leaves the image of this number of each disk, and a loading. What a disk holds is then what
-    /// `MemDisk::image` of that number gives; no failure is set, and nothing is pinned or in doubt. Answers the number
-    /// of commits beside the world. The history is the one that the two images open to: that from before the crash, or
-    /// this and the commit in doubt. Fails where memory runs out, and only there.
+    /// A crash that leaves the image of this number of each disk, and a loading. A disk then holds the bytes of
+    /// `MemDisk::image` of that number; no failure is set, and nothing is pinned or in doubt. Returns the world and the
+    /// number of commits. The history is the one that the two images open to: that from before the crash, or this and
+    /// the commit in doubt. Fails only if memory runs out.
     pub fn reopen(self, image: u32) -> Result<(World, u32), AllocError>
         ensures opens { IfOk result (λ r. (s : State) → StandsInMemory self s
             → Reopens s (left_on (disk_a self.pair) image) (left_on (disk_b self.pair) image) r.0 r.1) }
@@ -164,7 +164,7 @@ impl World {
     }
 }
 
-// What a crash leaves of both disks.
+// The bytes of both disks after a crash.
 fn after_crash(disks: Disks<MemDisk>, image: u32) -> Disks<MemDisk>
     ensures a { result.a ≡ fresh (left_on disks.a image) }
     ensures b { result.b ≡ fresh (left_on disks.b image) }

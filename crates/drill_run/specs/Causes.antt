@@ -1,4 +1,4 @@
--- For callers: which disk faults a drill's lines allow. Reopenings cut a drill into parts, in each of which failures
+-- For callers: the disk faults that a drill's lines allow. Reopenings cut a drill into parts, in each of which failures
 -- are set anew.
 use Rattle.std.specs.Prelude.{◌≡◌, ◌⊎◌, ◌≤◌, ◌+◌, ℕ, List, [], ◌∷◌, Option, None, Some, count_by}
 use Rattle.session_acts.specs.Cursors.{Calls}
@@ -6,7 +6,7 @@ use Rattle.drill_core.specs.Faults.{is_disk_fault}
 use Rattle.drill_run.specs.Dialogue.{Exchange}
 use Rattle.drill_run.specs.Lines.{DrillLine, Empty, Session, Stop, Fail, Reopen}
 
--- what a part of a drill has so far: lines `stop` and `stop-b`, lines `fail` and `fail-b`, and events that were
+-- the counts of a part of a drill so far: lines `stop` and `stop-b`, lines `fail` and `fail-b`, and events that were
 -- answered by a disk fault
 pub record Tally : Type 0 where
   pub stops : ℕ
@@ -19,7 +19,7 @@ nothing_set = record { stops = 0; fails = 0; faults = 0 }
 abbrev pub faults_in : Calls → ℕ
 faults_in calls = count_by (λ c. is_disk_fault c.1) calls
 
--- the part behind a line
+-- the counts after a line
 abbrev pub tally_after : Tally → Option DrillLine → Calls → Tally
 tally_after t (Some Empty) calls = t
 tally_after t (Some (Session number line)) calls = record t { faults = t.faults + faults_in calls }
@@ -28,8 +28,8 @@ tally_after t (Some (Fail disk call)) calls = record t { fails = t.fails + 1 }
 tally_after t (Some (Reopen image)) calls = nothing_set
 tally_after t None calls = t
 
--- So many more events may be answered by a disk fault: none, or any number behind a stop, or as many as leave no more
--- faults than failures that were set
+-- `more` further events may be answered by a disk fault: 0, any number after a stop, or a number with which the faults
+-- do not exceed the failures set
 abbrev pub MayFail : Tally → ℕ → Type 0
 MayFail t more = (more ≡ 0) ⊎ ((1 ≤ t.stops) ⊎ (t.faults + more ≤ t.fails))
 

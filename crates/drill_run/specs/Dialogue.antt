@@ -1,5 +1,5 @@
--- For callers: a drill as a dialogue, each line with what is done for it and the text that it is answered. Sessions are
--- counted from 1; each has cursors and watches of its own.
+-- For callers: a drill as a dialogue, each line with its events and the text of its answer. Sessions are counted from
+-- 1; each has cursors and watches of its own.
 use Rattle.std.specs.Prelude.{◌≡◌, ◌⊎◌, ◌+◌, ℕ, List, [], ◌∷◌, ◌++◌, length, map, Option, None, Some, codes}
 use Rattle.std.specs.Fmt.{decimal}
 use Rattle.io_edge.specs.Lines.{TextLine, Whole, TooLong}
@@ -16,11 +16,11 @@ use Rattle.store_machine.specs.declared.machine.Reply.TheVariants.{Crashed, Open
 use Rattle.drill_run.specs.Lines.{DrillLine, Empty, Session, Stop, Fail, Reopen, Reads}
 use Rattle.drill_run.specs.Numbers.{numbered}
 
--- what the sessions keep between their lines, for each session its own
+-- the states of the sessions between their lines, for each session its own
 abbrev pub AllKept : Type 0
 AllKept = List Standing
 
--- a line, what it is read as, the events of the store's machine with their replies, and the text of the answer
+-- a line, its reading, the events of the store's machine with their replies, and the text of the answer
 pub record Exchange : Type 0 where
   pub line : TextLine
   pub read : Option DrillLine
@@ -33,12 +33,12 @@ set_text = codes "set" ++ 10 ∷ []
 abbrev pub reopened_text : ℕ → List ℕ
 reopened_text version = codes "reopened " ++ (decimal version ++ 10 ∷ [])
 
--- a line that is none of a drill's
+-- the refusal of a line that is not a drill's
 abbrev pub refused_text : TextLine → List ℕ
 refused_text (Whole text) = codes "refused drill" ++ 10 ∷ []
 refused_text (TooLong size) = reply_line (reply.Refused refusals.Long)
 
--- nothing is done, and this is answered
+-- no call is made, and `said` is the answer
 abbrev pub Says : List ℕ → AllKept → Calls → List ℕ → AllKept → Type 0
 Says said all calls text all' = (calls ≡ []) × (text ≡ said) × (all' ≡ all)
 
@@ -46,8 +46,8 @@ Says said all calls text all' = (calls ≡ []) × (text ≡ said) × (all' ≡ a
 abbrev pub lines_refused : Lines
 lines_refused = reply.Refused (refusals.Line refused.Syntax) ∷ []
 
--- A script line is answered as in a session. One that would take lines after it, those of a molfile or of records, is
--- refused, and takes none
+-- A script line is answered as in a session. A line that would take lines after it, those of a molfile or of records,
+-- is refused, and takes no lines
 abbrev pub IsOwnAnswer : ℕ → List ℕ → Standing → Calls → Lines → Standing → Type 0
 IsOwnAnswer size line standing calls lines standing' =
     (TakesLines line × (calls ≡ []) × (lines ≡ lines_refused)
@@ -55,7 +55,7 @@ IsOwnAnswer size line standing calls lines standing' =
     ⊎ (¬ TakesLines line
     × RequestAnswer size standing (record { line = Whole line; more = [] }) calls lines standing')
 
--- a session's line is answered by what that session keeps, each line of the reply with the number of the session
+-- a session's line is answered by the state of that session, each line of the reply with the number of the session
 pub record IsSessionAnswer (size number : ℕ) (line : List ℕ) (all : AllKept) (calls : Calls) (text : List ℕ)
     (all' : AllKept) : Type 0 where
   pub before : AllKept
@@ -75,7 +75,7 @@ IsReopening all calls text all' =
     (version : ℕ) × (calls ≡ (Crash, Crashed) ∷ (Open, Opened version) ∷ []) × (text ≡ reopened_text version)
     × (all' ≡ map (λ _. nothing_kept) all)
 
--- what is done for a line, by what it is read as, and how it is answered; pages have a size
+-- the events of a line, by its reading, and its answer; a page has at most `size` records
 abbrev pub Does : ℕ → TextLine → Option DrillLine → AllKept → Calls → List ℕ → AllKept → Type 0
 Does size line (Some Empty) all calls text all' = Says [] all calls text all'
 Does size line (Some (Session number own)) all calls text all' =
@@ -88,7 +88,7 @@ Does size line None all calls text all' = Says (refused_text line) all calls tex
 abbrev pub IsExchange : ℕ → AllKept → Exchange → AllKept → Type 0
 IsExchange size all x all' = Reads x.line x.read × Does size x.line x.read all x.calls x.text all'
 
--- lines were answered one after another, and this is kept then
+-- lines were answered one after another, and `all'` is kept then
 abbrev pub AreExchanged : ℕ → AllKept → List Exchange → AllKept → Type 0
 AreExchanged size all [] all' = all' ≡ all
 AreExchanged size all (x ∷ xs) all' =
@@ -97,7 +97,7 @@ AreExchanged size all (x ∷ xs) all' =
 abbrev pub lines_of : List Exchange → List TextLine
 lines_of exchanges = map (λ x. x.line) exchanges
 
--- what was done for all of them, and the text of all answers
+-- the events of all of them, and the text of all answers
 abbrev pub calls_of : List Exchange → Calls
 calls_of [] = []
 calls_of (x ∷ xs) = x.calls ++ calls_of xs

@@ -1,5 +1,5 @@
--- For callers: what a drill wrote for its lines and did to its world, where the source tells its bytes and the sink
--- what was put.
+-- For callers: the output of a drill for its lines, if the contents of the source and the sink are known, and its
+-- effects on its world.
 use Rattle.std.specs.Prelude.{◌≡◌, ◌⊎◌, ℕ, List, [], ◌∷◌, ◌++◌, map, replicate, Option, IfSome}
 use Rattle.disk_edge.specs.Medium.{Medium}
 use Rattle.io_edge.specs.Lines as io
@@ -23,7 +23,7 @@ use Rattle.drill_run.specs.declared.line.TheConstants.{SESSIONS}
 abbrev pub events_of : List Step → Calls
 events_of steps = map (λ (x : Step). (x.event, x.reply)) steps
 
--- From the state at which a world stands there is a run with exactly these events and replies, to a state with P
+-- From the state that a world represents there is a run with exactly these events and replies, to a state with P
 abbrev pub RunsTo : StoreTerm Medium → Calls → (State → Type 0) → Type 0
 RunsTo world calls P = (s : State) → StandsInMemory world s
     → (steps : List Step) × (t : State) × IsRun s steps t × (events_of steps ≡ calls) × P t
@@ -45,7 +45,7 @@ pub record IsDialogue (size : ℕ) (lines left : List TextLine) (calls : Calls) 
   pub made : calls ≡ calls_of exchanges
   pub said : text ≡ replies_of exchanges
 
--- some first events of an answer, and some first bytes of its text
+-- the first events of an answer, and the first bytes of its text
 pub record IsCutOf (x cut : Exchange) : Type 0 where
   pub line : cut.line ≡ x.line
   pub read : cut.read ≡ x.read
@@ -74,12 +74,12 @@ pub record IsDialoguePrefix (size : ℕ) (lines : List TextLine) (calls : Calls)
   pub made : calls ≡ calls_of (exchanges ++ last)
   pub said : text ≡ replies_of (exchanges ++ last)
 
--- all lines that are whole in the bytes that were taken were answered, and nothing else was done or written
+-- all whole lines in the bytes that were taken were answered, and nothing else was done or written
 abbrev pub IsAllOfTaken : ℕ → Calls → List ℕ → List ℕ → Type 0
 IsAllOfTaken size calls got text = IsDialogue size (whole_lines got) [] calls text
 
--- by how the drill ended: all of it, or a beginning, by whole lines where the source failed or its bytes are too many.
--- A world is never worn
+-- by how the drill ended: all of it, or a beginning. It ends with a whole line if the source failed or its bytes are
+-- too many. A world is never worn
 abbrev pub IsDrilled : EndStatus → ℕ → List TextLine → Calls → List ℕ → Type 0
 IsDrilled Done size lines calls text = IsDialogue size lines [] calls text
 IsDrilled SourceFault size lines calls text = (left : List TextLine) × IsDialogue size lines left calls text
@@ -87,8 +87,8 @@ IsDrilled InputTooLong size lines calls text = (left : List TextLine) × IsDialo
 IsDrilled Worn size lines calls text = ⊥
 IsDrilled _ size lines calls text = IsDialoguePrefix size lines calls text
 
--- A source's bytes were drilled by these events. Where the source failed, or its bytes are too many, exactly the lines
--- that are whole in what was taken were answered
+-- A source's bytes were drilled by these events. If the source failed, or its bytes are too many, exactly the whole
+-- lines in the bytes that were taken were answered
 pub record IsDrilledBy (end : EndStatus) (size : ℕ) (before after put put' : Option (List ℕ)) (calls : Calls)
     : Type 0 where
   pub script : IfSome before (λ bytes. Writes put put' (IsDrilled end size (io.lines_of bytes) calls))

@@ -6,7 +6,7 @@ use Rattle.disk_pair.specs.declared.choice.Which.TheVariants.{First, Second}
 use Rattle.io_edge.specs.Lines.{TextLine, Whole, TooLong}
 use Rattle.drill_run.specs.declared.line.TheConstants.{LAST_IMAGE, MOST_CALLS, SESSIONS}
 
--- nothing; a script line for a session; a stop of a disk and a failure, which are set; a reopening
+-- an empty line, a script line for a session, a stop of a disk, a failure of a disk, or a reopening
 pub data DrillLine : Type 0 where
   Empty : DrillLine
   Session : (number : ℕ) (line : List ℕ) → DrillLine
@@ -33,12 +33,12 @@ Spells line (Stop disk calls) = (calls ≤ MOST_CALLS) × (line ≡ stop_word di
 Spells line (Fail disk call) = (1 ≤ call) × (call ≤ MOST_CALLS) × (line ≡ fail_word disk ++ 32 ∷ decimal call)
 Spells line (Reopen image) = (image ≤ LAST_IMAGE) × (line ≡ codes "reopen" ++ 32 ∷ decimal image)
 
--- which line of a drill a text is, if it is one
+-- the line of a drill that a text is, if it is one
 abbrev pub IsLine : List ℕ → Option DrillLine → Type 0
 IsLine text (Some line) = Spells text line
 IsLine text None = (line : DrillLine) → ¬ Spells text line
 
--- a line that is too long is none
+-- a line that is too long is no line of a drill
 abbrev pub Reads : TextLine → Option DrillLine → Type 0
 Reads (Whole text) read = IsLine text read
 Reads (TooLong size) read = read ≡ None

@@ -2,8 +2,8 @@
 use Rattle.std.specs.Prelude.{ℕ, Bool, true, List, [], ◌∷◌, ◌++◌, ◌==◌, if◌then◌else◌}
 use Rattle.std.specs.Fmt.{decimal}
 
--- a text with a number and a space before each of its lines: behind each LF that is not the last byte, and, where a
--- line begins here, in front
+-- a text with a number and a space before each of its lines. A line begins after each LF that is not the last byte, and
+-- at the start if `begins` is true
 abbrev pub numbered_from : ℕ → Bool → List ℕ → List ℕ
 numbered_from number begins [] = []
 numbered_from number begins (b ∷ bs) =

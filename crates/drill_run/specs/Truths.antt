@@ -1,5 +1,5 @@
--- For callers: the laws of a drill. A reopening keeps what was acknowledged, and between two reopenings each session's
--- searches, cursors, lookups and watches tell what the history has.
+-- For callers: the laws of a drill. A reopening keeps the acknowledged commits. Between two reopenings each session's
+-- searches, cursors, lookups and watches are true by the history.
 use Rattle.std.specs.Prelude.{◌≡◌, ◌⊎◌, ℕ, List, [], ◌∷◌, ◌++◌, Some}
 use Rattle.io_edge.specs.Lines.{Whole}
 use Rattle.session_acts.specs.Cursors.{Calls}
@@ -25,7 +25,7 @@ use Rattle.drill_run.specs.Numbers.{numbered}
 abbrev pub IsOwn : ℕ → Exchange → Type 0
 IsOwn number x = (line : List ℕ) × (x.read ≡ Some (Session number line)) × ¬ TakesLines line
 
--- the same line with its reply, as an exchange of that session alone
+-- as `IsOwn`, with the line and its reply as an exchange of that session alone
 pub record IsOwnAs (number : ℕ) (x : Exchange) (own : session.Exchange) : Type 0 where
   pub line : List ℕ
   pub read : x.read ≡ Some (Session number line)
@@ -54,8 +54,8 @@ abbrev pub BeginsAnew : List Exchange → Type 0
 BeginsAnew before = (before ≡ [])
     ⊎ ((front : List Exchange) × (last : Exchange) × (before ≡ front ++ last ∷ []) × IsReopen last)
 
--- of a run from a state, the first steps make the calls of a drill so far, and what the session's own dialogue told in
--- its last part is what the history then has
+-- The first steps of a run from a state make the calls of a drill so far. The session's own dialogue in its last part
+-- is true by the history then
 pub record IsTold (s : State) (steps : List Step) (size number : ℕ) (before part : List Exchange) : Type 0 where
   pub first : List Step
   pub left : List Step
@@ -67,8 +67,8 @@ pub record IsTold (s : State) (steps : List Step) (size number : ℕ) (before pa
   pub are : AreOwn number part own
   pub are_true : AreTrue there.history size own
 
--- In each part of a drill, from the beginning or a reopening on and however far, each session's searches, cursors,
--- lookups and watches that came to their end told exactly what the history has
+-- In each part of a drill each session's searches, cursors, lookups and watches that came to their end are true by the
+-- history. A part goes from the beginning or a reopening on, however far
 abbrev pub AreAllTold : State → List Step → ℕ → List Exchange → Type 0
 AreAllTold s steps size exchanges =
     (number : ℕ) (before part after : List Exchange) → exchanges ≡ before ++ (part ++ after) → BeginsAnew before
@@ -81,9 +81,9 @@ DrillsAreTrue =
     → AreExchanged size all_empty exchanges all → IsSound s → IsRun s steps t
     → events_of steps ≡ calls_of exchanges ++ more → AreAllTold s steps size exchanges
 
--- A reopening leaves the history with what was acknowledged since the last one, in order, and at most one commit more,
--- the one in doubt; its base is moved to a version that was there. So what was committed up to that version is given
--- through the base, and each snapshot from it on is the acknowledged one
+-- A reopening leaves the history with the commits acknowledged since the last one, in order, and at most one commit
+-- more, the one in doubt. Its base is moved to a version that was there. So the base has the commits up to that
+-- version, and each snapshot from it on is the acknowledged one
 abbrev pub ReopeningsKeep : Type 0
 ReopeningsKeep =
     (s t u : State) (steps : List Step) (crash opening : Step)

@@ -1,4 +1,4 @@
--- For private clauses alone: what a turn of a drill does, and when the next can be done.
+-- For private clauses alone: the effects of a turn of a drill, and when the next can be done.
 use Rattle.std.specs.Prelude.{◌≡◌, ◌≤◌, ◌<◌, ◌+◌, ◌^◌, ℕ, List, [], ◌∷◌, ◌++◌, length, Option, Result, Ok, Err, Some, true}
 use Rattle.std.specs.Io.KnownBytes.{Appends}
 use Rattle.std.specs.List.{AllByRecursion}
@@ -36,7 +36,7 @@ use Rattle.drill_run.specs.declared.sessions.Sessions.{Sessions}
 abbrev pub WorldTerm : Type 0
 WorldTerm = StoreTerm Medium
 
--- the settings of a session
+-- the responder fits these settings
 abbrev pub IsSessionOf : Settings → Responder → Type 0
 IsSessionOf settings r = IsFit r.cursors × (r.cursors.settings ≡ settings)
 
@@ -100,7 +100,7 @@ pub record Breaks (size : ℕ) (line : TextLine) (old : WorldTerm) (all : AllKep
   pub runs : Runs old cut.calls
   pub tallied : (t : Tally) → IsTallied t old → IsSmall t → MayFail t (faults_in cut.calls)
 
--- what a line leaves of the sessions and of the world, or where its answer broke off
+-- the sessions and the world after a line, or the answer that broke off
 abbrev pub Answered : Sessions → Sessions → WorldTerm → TextLine → Result WorldTerm AllocError → Type 0
 Answered old new world line (Ok after) = Goes old.settings.page line world after (kept_in old.responders.items)
     (kept_in new.responders.items) new.out.items × AreReady after new × (new.settings ≡ old.settings)
@@ -133,7 +133,7 @@ EndsIn size line old all put put' SinkFault = BreaksOff size line old all put pu
 EndsIn size line old all put put' NoMemory = BreaksOff size line old all put put'
 EndsIn size line old all put put' _ = ⊥
 
--- the next line that was read of a source
+-- the next line of a source
 abbrev pub TakesLine : Reading → Reading → Option (List ℕ) → Option (List ℕ) → TextLine → Type 0
 TakesLine old new before after line = ReadsLines old new before after (λ all left. all ≡ line ∷ left)
 
@@ -153,7 +153,7 @@ Ends size Takes AtEnd NoLine old all put put' NoMemory =
     (line : TextLine) × Takes line × BreaksOff size line old all put put'
 Ends size Takes AtEnd NoLine old all put put' Worn = ⊥
 
--- what was put of a reply, by how it ends the drill, if it does
+-- the text that was put of a reply, by how it ends the drill, if it does
 abbrev pub Puts : Option (List ℕ) → Option (List ℕ) → List ℕ → Result (Unit {0}) EndStatus → Type 0
 Puts put put' reply (Ok _) = Appends put put' reply
 Puts put put' reply (Err SinkFault) = AppendsPrefix put put' reply

@@ -1,5 +1,5 @@
--- A line of a drill as it is read, without where its parts lie; the sessions as contracts see them. For private clauses
--- alone.
+-- A line of a drill as it is read, without the places of its parts in memory; the sessions as contracts see them. For
+-- private clauses alone.
 use Rattle.std.specs.Prelude.{List, map}
 use Rattle.session_run.specs.Standings.{standing_of}
 use Rattle.session_run.specs.declared.respond.Responder.{Responder}

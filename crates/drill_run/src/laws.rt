@@ -1,12 +1,12 @@
-//! The laws of a drill: joined with a run of the store's machine, each session tells what the history has, and no
-//! reopening loses what was acknowledged.
+//! The laws of a drill: joined with a run of the store's machine, each session's replies are true by the history, and
+//! no reopening loses an acknowledged commit.
 ghost use Rattle.drill_run.specs.Truths.{DrillsAreTrue, ReopeningsKeep};
 
 use session_acts::dialogues_are_true;
 use store_machine::{pins_stay, rebases_keep, replies_tell, runs_stay_sound};
 
 /// In each part of a drill, up to a reopening, each session's searches, cursors, lookups and watches that came to their
-/// end told exactly what the history has, whatever the other sessions did meanwhile.
+/// end listed exactly the content of the history. The other sessions may do anything meanwhile.
 pub fn drills_are_true()
     ensures { DrillsAreTrue }
 {

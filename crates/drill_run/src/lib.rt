@@ -1,7 +1,7 @@
-//! A drill: sixteen sessions on one world, whose disks are stopped or failed and which is opened again, line by line.
+//! A drill: sixteen sessions on one world, line by line. Lines also stop or fail its disks, and open it again.
 //!
-//! What is promised is one relation between the lines, the events of the world's machine with their replies, and the
-//! text that was put. A crash and an opening are among the events; a disk fault is, only where a line set it.
+//! The contract is one relation between the lines, the events of the world's machine with their replies, and the text
+//! that was put. Crashes and openings are among the events; disk faults only if a line set them.
 #![tactic(auto)]
 
 mod laws;

@@ -8,7 +8,7 @@ use chem_text::decimal;
 use disk_pair::Which;
 use shell_lang::{are_same, split_at_space};
 
-/// How many sessions a drill has.
+/// The number of sessions of a drill.
 pub const SESSIONS: u32 = 16;
 
 /// The greatest number of a call that fails, or of calls before a stop.
@@ -32,7 +32,7 @@ pub enum DrillLine<'a> {
     Reopen { image: u32 },
 }
 
-/// Reads a line, without its end. Numbers are decimals without leading zero. `None`: it is no line of a drill.
+/// Reads a line, without its end. Numbers are decimals without leading zero. `None` if it is no line of a drill.
 pub fn drill_line(line: &[u8]) -> Option<DrillLine<'_>>
     ensures { IsLine line.now (option_map line_of result) }
 {
@@ -63,7 +63,7 @@ pub fn drill_line(line: &[u8]) -> Option<DrillLine<'_>>
     })
 }
 
-// Which disk a word is for, by the words for disk `a` and for disk `b`.
+// The disk that a word is for, by the words for disk `a` and for disk `b`.
 fn disk_of(word: &[u8], a: &[u8], b: &[u8]) -> Option<Which>
     ensures some { IfSome result (λ disk. word.now ≡ word_for disk a.now b.now) }
     ensures none { IfNone result ((disk : Which) → word.now ≢ word_for disk a.now b.now) }
@@ -77,7 +77,7 @@ fn disk_of(word: &[u8], a: &[u8], b: &[u8]) -> Option<Which>
     None
 }
 
-// The number that the bytes are printed as, if it is at most `most`.
+// The number whose decimal the bytes are, if it is at most `most`.
 fn number(bytes: &[u8], most: u32) -> Option<u32>
     ensures some { IfSome result (λ n. (n ≤ most) × (bytes.now ≡ decimal n)) }
     ensures none { IfNone result ((n : ℕ) → n ≤ most → bytes.now ≢ decimal n) }
@@ -86,7 +86,7 @@ fn number(bytes: &[u8], most: u32) -> Option<u32>
     Some(number as u32)
 }
 
-// The same of a number that is not 0.
+// As `number`, but of a number that is not 0.
 fn number_from_1(bytes: &[u8], most: u32) -> Option<u32>
     ensures some { IfSome result (λ n. (1 ≤ n) × (n ≤ most) × (bytes.now ≡ decimal n)) }
     ensures none { IfNone result ((n : ℕ) → 1 ≤ n → n ≤ most → bytes.now ≢ decimal n) }

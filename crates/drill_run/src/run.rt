@@ -81,7 +81,7 @@ fn serve<R: Threads + Sync, I: Source, O: Sink, M: Meter>(
     }
 }
 
-// Reads the next line and puts its reply. It answers the world as the line left it, or how the drill ends.
+// Reads the next line and puts its reply. Returns the world as the line left it, or how the drill ends.
 fn turn<R: Threads + Sync, I: Source, O: Sink, M: Meter>(
     rt: &R,
     world: World,
@@ -168,7 +168,7 @@ fn answer_and_put<R: Threads + Sync, O: Sink, M: Meter>(
     }
 }
 
-// Puts a reply, or answers how the drill ends.
+// Puts a reply, or returns how the drill ends.
 fn put<O: Sink>(reply: &[u8], sink: &mut O) -> Result<(), EndStatus>
     ensures puts { Puts (O.written sink.old) (O.written sink.new) reply.now result }
     ensures rose { result ≡ Err EndStatus.SinkFault → Rose (O.faults sink.old) (O.faults sink.new) }

@@ -1,4 +1,4 @@
-//! The sessions of a drill, and what a line is answered.
+//! The sessions of a drill, and the answers to its lines.
 ghost use Rattle.std.specs.Prelude.{◌≡◌, ◌≤◌, ◌++◌, [], IfOk, List, None, OnErr, OnOk, Some, length, map, ℕ};
 ghost use Rattle.std.specs.List.{AllByRecursion};
 ghost use Rattle.disk_pair.specs.declared.choice.Which.TheVariants.{First, Second};
@@ -44,7 +44,7 @@ pub struct Sessions {
 }
 
 impl Sessions {
-    /// Without cursors and watches.
+    /// Sessions without cursors and watches.
     pub fn new(alloc: Global, settings: Settings) -> Result<Sessions, AllocError>
         requires servable { IsServable settings }
         ensures settings { IfOk result (λ sessions. sessions.settings ≡ settings) }
@@ -64,7 +64,7 @@ impl Sessions {
         })
     }
 
-    /// Does what a line asks for: one that was read, or one that is too long. The reply is then in `out`.
+    /// Executes a line that was read, or refuses one that is too long. The reply is then in `out`.
     pub fn answer<R: Threads + Sync, M: Meter>(
         &mut self,
         rt: &R,
@@ -84,7 +84,7 @@ impl Sessions {
         }
     }
 
-    // Does what a line asks for.
+    // Executes a line.
     fn obey<R: Threads + Sync, M: Meter>(
         &mut self,
         rt: &R,
@@ -198,7 +198,7 @@ impl Sessions {
         self.say_version(world, version)
     }
 
-    // Writes a reply, and hands the world on.
+    // Writes a reply, and returns the world.
     fn say(&mut self, world: World, text: &[u8]) -> Result<World, AllocError>
         ensures ok { IfOk result (λ after. (after ≡ world)
             × (self.new.out.items ≡ self.old.out.items ++ text.now)) }
@@ -209,7 +209,7 @@ impl Sessions {
         Ok(world)
     }
 
-    // The same of the number of commits.
+    // As `say`, but of the number of commits.
     fn say_version(&mut self, world: World, version: u32) -> Result<World, AllocError>
         ensures ok { IfOk result (λ after. (after ≡ world)
             × (self.new.out.items ≡ self.old.out.items ++ reopened_text version)) }
@@ -260,7 +260,7 @@ impl Sessions {
     }
 }
 
-// Answers a session's line. One that would take more lines is refused. The reply is then in `out` of the responder.
+// Answers a session's line, or refuses one that would take more lines. The reply is then in `out` of the responder.
 fn answer_alone<R: Threads + Sync, M: Meter>(
     responder: &mut Responder,
     rt: &R,

@@ -1,4 +1,4 @@
-//! Worked tables of the edges: lines, sources and sinks; disks and their images; journals, logs, copies and pairs.
+//! Worked tables of the edges: lines, sources and sinks, disks and their images, journals, logs, copies and pairs.
 #![tactic(auto)]
 
 #[cfg(test)]

@@ -21,7 +21,7 @@ kind_number Triple = 3
 kind_number Quad = 4
 kind_number Aromatic = 5
 
--- the colour of an atom of which its own colour before is known, and the sum of what is seen of its neighbours
+-- the colour of an atom, from its own colour before and the sum of its neighbours' colours as they are seen
 abbrev pub blended : ℕ → ℕ → ℕ
 blended own seen = scrambled (((own * 3) % 2 ^ 64 + seen) % 2 ^ 64)
 
@@ -40,7 +40,7 @@ pub record AreInRange (atoms : ℕ) (list : List ℕ) : Type 0 where
   pub within : (i : ℕ) → i < length list → slice_index list i < atoms
   pub apart : (i j : ℕ) → i < length list → j < length list → slice_index list i ≡ slice_index list j → i ≡ j
 
--- what is seen of the neighbours, one number for each
+-- the neighbours' colours as they are seen, one number for each
 pub record IsSeen (m : Molecule) (colours : List ℕ) (x : ℕ) (ns : List (ℕ × ℕ)) (seen : List ℕ) : Type 0 where
   pub value : (k : ℕ) → k < length seen → (kind : BondKind) → HasBond m x (slice_index_or ns k (0, 0)).0 kind
       → slice_index seen k ≡ seen_through (slice_index colours (slice_index_or ns k (0, 0)).0) kind

@@ -11,12 +11,12 @@ use Rattle.exact_find.specs.declared.key.Key.{Key}
 abbrev pub charge_code : Atom → ℕ
 charge_code atom = int_gap (neg_ℤ (pos 15)) atom.charge
 
--- what an atom is, as one number
+-- the part of an atom's code that depends on the atom alone
 abbrev pub atom_code : Atom → ℕ
 atom_code atom = ((((atom.number * 1000) + atom.isotope) * 31 + charge_code atom) * 256 + atom.hydrogens) * 2
     + from_bool atom.aromatic
 
--- the same, with its neighbours
+-- the code of an atom, with its number of neighbours
 abbrev pub code : Molecule → ℕ × Atom → ℕ
 code m at = atom_code at.1 * 13 + degree (ends_of m) at.0
 

@@ -1,4 +1,4 @@
--- How many bonds lead from an atom to others. For private clauses alone.
+-- The number of bonds that lead from an atom to others. For private clauses alone.
 use Rattle.std.specs.Prelude.{◌≡◌, ◌≢◌, ◌⊎◌, ℕ, ◌+◌, ◌<◌, ◌≤◌, List, length, slice_index}
 use Rattle.chem_core.specs.declared.mol.BondKind.{BondKind}
 use Rattle.chem_core.specs.Molecule.{Molecule, IsMolecule}
@@ -14,7 +14,7 @@ abbrev pub Reaches : List ℕ → ℕ → Type 0
 Reaches levels x = slice_index levels x < IN_PAIR
 
 -- The atoms of the list are those that are reached, each once. Bonds lead to the next level, to levels so far, or to an
--- atom in a pair, and each level but the first is led to.
+-- atom in a pair. A bond leads to each level but the first.
 pub record IsReached (m : Molecule) (start : ℕ) (before after list : List ℕ) : Type 0 where
   pub listed : AreInRange (length m.atoms) list
   pub low : (i : ℕ) → i < length list → Reaches after (slice_index list i)
@@ -27,7 +27,8 @@ pub record IsReached (m : Molecule) (start : ℕ) (before after list : List ℕ)
   pub led : (x : ℕ) → x < length m.atoms → Reaches after x → x ≢ start → (y : ℕ) × (kind : BondKind)
       × HasBond m y x kind × Reaches after y × (slice_index after x ≡ slice_index after y + 1)
 
--- The same on the way: the neighbours of the atoms below a place of the list are listed, and levels rise along it.
+-- As `IsReached`, on the way: the neighbours of the atoms below a place of the list are listed, and levels rise along
+-- it.
 pub record IsSpread (m : Molecule) (start : ℕ) (initial levels list : List ℕ) (at last : ℕ) : Type 0 where
   pub sound : IsMolecule m
   pub some : 0 < last

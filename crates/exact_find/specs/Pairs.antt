@@ -5,7 +5,7 @@ use Rattle.chem_core.specs.declared.mol.BondKind.{BondKind}
 use Rattle.chem_core.specs.Molecule.{Molecule}
 use Rattle.exact_find.specs.Same.{HasBond, IsAlike}
 
--- f takes the atoms of m to those of n, and g back; beyond the atoms nothing is said of them but that
+-- f takes the atoms of m to those of n, and g is its inverse; beyond the atoms nothing more is known of them
 pub record IsMap (m n : Molecule) (f g : ℕ → ℕ) : Type 0 where
   pub atoms : length m.atoms ≡ length n.atoms
   pub bonds : length m.bonds ≡ length n.bonds
@@ -28,7 +28,7 @@ IsPaired ps a = (b : ℕ) × Has ps a b
 abbrev pub flip : List (ℕ × ℕ) → List (ℕ × ℕ)
 flip ps = map (λ p. (p.1, p.0)) ps
 
--- The first atoms of the pairs are different ones of m or have the same partner; partners are alike, and bonds between
+-- The first atoms of the pairs are different ones of m or have the same partner. Partners are alike, and bonds between
 -- first atoms are bonds between their partners.
 pub record Carries (m n : Molecule) (ps : List (ℕ × ℕ)) : Type 0 where
   pub one : (a b c : ℕ) → Has ps a b → Has ps a c → b ≡ c
@@ -46,7 +46,7 @@ pub record IsPartial (m n : Molecule) (ps : List (ℕ × ℕ)) : Type 0 where
   pub there : Carries m n ps
   pub back : Carries n m (flip ps)
 
--- some map goes on from the pairs
+-- a map goes on from the pairs
 pub record Extends (m n : Molecule) (ps : List (ℕ × ℕ)) : Type 0 where
   pub f : ℕ → ℕ
   pub g : ℕ → ℕ
@@ -63,7 +63,7 @@ pub record IsPart (m : Molecule) (ps qs : List (ℕ × ℕ)) (start : ℕ) : Typ
   pub closed : (a c : ℕ) (kind : BondKind) → IsPaired qs a → (IsPaired ps a → ⊥) → HasBond m a c kind → IsPaired qs c
   pub joined : (s : ℕ → Bool) → IsLevel m ps s → (a : ℕ) → IsPaired qs a → (IsPaired ps a → ⊥) → s a ≡ s start
 
--- The pairs after begin with those before, and the pair of a and b; what is new is a whole component on each side.
+-- The pairs after begin with those before, and the pair of a and b; the new ones are a whole component on each side.
 pub record IsStep (m n : Molecule) (ps qs : List (ℕ × ℕ)) (a b : ℕ) : Type 0 where
   pub partial : IsPartial m n qs
   pub part : IsPart m ps qs a

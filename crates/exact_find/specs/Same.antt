@@ -9,7 +9,7 @@ abbrev pub HasBond : Molecule → ℕ → ℕ → BondKind → Type 0
 HasBond m x y kind = Contains m.bonds (record { a = x; b = y; kind = kind })
     ⊎ Contains m.bonds (record { a = y; b = x; kind = kind })
 
--- atoms of which the same is said; their valences are not compared
+-- atoms with the same fields; their valences are not compared
 pub record IsAlike (x y : Atom) : Type 0 where
   pub number : x.number ≡ y.number
   pub isotope : x.isotope ≡ y.isotope
@@ -17,7 +17,7 @@ pub record IsAlike (x y : Atom) : Type 0 where
   pub hydrogens : x.hydrogens ≡ y.hydrogens
   pub aromatic : x.aromatic ≡ y.aromatic
 
--- Distinct atoms of n, one for each atom of m, which are alike; each bond of m is taken to a bond of n of its kind.
+-- Distinct atoms of n, one for each atom of m, which are alike. Each bond of m is taken to a bond of n of its kind.
 pub record IsImage (m n : Molecule) (image : List ℕ) : Type 0 where
   pub one_each : length image ≡ length m.atoms
   pub distinct : AllPairs ◌≢◌ image
@@ -26,7 +26,7 @@ pub record IsImage (m n : Molecule) (image : List ℕ) : Type 0 where
   pub bonds : (x y : ℕ) (kind : BondKind) → HasBond m x y kind
       → HasBond n (slice_index image x) (slice_index image y) kind
 
--- as many atoms and bonds, and an image
+-- equally many atoms and bonds, and an image
 pub record IsSame (m n : Molecule) : Type 0 where
   pub atoms : length m.atoms ≡ length n.atoms
   pub bonds : length m.bonds ≡ length n.bonds

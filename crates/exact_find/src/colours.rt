@@ -1,7 +1,7 @@
-//! Colours of atoms: numbers that each map from one molecule to another keeps, so that it takes atoms of the left
-//! molecule to atoms of the right one that have their colours.
+//! Colours of atoms: numbers that each map from one molecule to another keeps. So it takes atoms of the left molecule
+//! to atoms of the right one of their colours.
 //!
-//! An atom's colour comes from what it is and from the colours of its neighbours, so it depends on the structure alone.
+//! An atom's colour comes from its code and from the colours of its neighbours, so it depends on the structure alone.
 ghost use Rattle.std.specs.Prelude.{◌≡◌, ◌<◌, ◌≤◌, ◌+◌, ◌%◌, ◌^◌, ℕ, length, map, sum, slice_index};
 ghost use Rattle.chem_core.specs.declared.mol.BondKind.{BondKind};
 ghost use Rattle.exact_find.specs.Colours.{AreInRange, IsBegun, IsNew, IsRound, blended, kind_number, levelled, scrambled, seen_through, taken};

@@ -1,4 +1,4 @@
-//! Whether two atoms can be a pair beside the pairs so far.
+//! A test of two atoms as a pair beside the pairs so far.
 ghost use Rattle.std.specs.Prelude.{◌≡◌, ◌<◌, ◌++◌, ◌∷◌, ◌↔◌, [], false, length, IfNone, IfSome, IsTrue};
 ghost use Rattle.chem_core.specs.declared.mol.BondKind.{BondKind};
 ghost use Rattle.exact_find.specs.Same.{HasBond, IsAlike};
@@ -32,7 +32,7 @@ pub fn partner_back(pairs: &[(u16, u16)], atom: u16) -> Option<u16>
     None
 }
 
-/// Whether two atoms that are in no pair can be one beside the pairs: they are alike, and joined alike to the atoms in
+/// True if two atoms that are in no pair can be one beside the pairs: they are alike, and joined alike to the atoms in
 /// pairs.
 pub fn fits(left: &Mol, right: &Mol, pairs: &[(u16, u16)], a: u16, b: u16) -> bool
     requires partial { IsPartial left.now right.now pairs.now }
@@ -57,7 +57,7 @@ pub fn fits(left: &Mol, right: &Mol, pairs: &[(u16, u16)], a: u16, b: u16) -> bo
     is_carried_back(left, right, pairs, a, b)
 }
 
-// Whether each bond of the left atom to one in a pair is one of the right atom to its partner.
+// True if each bond of the left atom to one in a pair is one of the right atom to its partner.
 fn is_carried(left: &Mol, right: &Mol, pairs: &[(u16, u16)], a: u16, b: u16) -> bool
     requires partial { IsPartial left.now right.now pairs.now }
     requires a_in_range { a < length left.now.atoms }
@@ -75,7 +75,7 @@ fn is_carried(left: &Mol, right: &Mol, pairs: &[(u16, u16)], a: u16, b: u16) -> 
     true
 }
 
-// Whether each bond of the right atom to one in a pair is one of the left atom to its partner.
+// True if each bond of the right atom to one in a pair is one of the left atom to its partner.
 fn is_carried_back(left: &Mol, right: &Mol, pairs: &[(u16, u16)], a: u16, b: u16) -> bool
     requires partial { IsPartial left.now right.now pairs.now }
     requires a_in_range { a < length left.now.atoms }
@@ -93,7 +93,7 @@ fn is_carried_back(left: &Mol, right: &Mol, pairs: &[(u16, u16)], a: u16, b: u16
     true
 }
 
-// Whether a bond of the kind joins the atoms.
+// True if a bond of the kind joins the atoms.
 fn has_bond(mol: &Mol, atom: u16, other: u16, kind: BondKind) -> bool
     requires { atom < length mol.now.atoms }
     ensures { IsTrue result ↔ HasBond mol.now atom other kind }
@@ -120,7 +120,7 @@ fn kind_between(mol: &Mol, atom: u16, other: u16) -> Option<BondKind>
     None
 }
 
-/// Whether the same is said of two atoms but for their valence.
+/// True if two atoms have the same fields but for their valence.
 pub fn is_alike(a: &Atom, b: &Atom) -> bool
     ensures { IsTrue result ↔ IsAlike a.now b.now }
 {

@@ -38,7 +38,7 @@ pub fn key_of(mol: &Mol) -> Key
     }
 }
 
-/// What the atom at a place is and how many neighbours it has, as one number.
+/// The code of the atom at a place.
 pub fn code_of(mol: &Mol, place: usize) -> u64
     requires { place < length mol.now.atoms }
     ensures value { (atom : Atom) → slice_get mol.now.atoms place ≡ Some atom
@@ -49,7 +49,7 @@ pub fn code_of(mol: &Mol, place: usize) -> u64
     digits(&atoms[place]) * 13 + mol.neighbours(place as u16).len() as u64
 }
 
-// What an atom is, as one number.
+// The part of the code that depends on the atom alone.
 fn digits(atom: &Atom) -> u64
     requires { IsAtom atom.now }
     ensures value { result ≡ atom_code atom.now }

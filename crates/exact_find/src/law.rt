@@ -1,4 +1,4 @@
-//! What follows for molecules that are the same structure.
+//! Laws of molecules that are the same structure.
 ghost use Rattle.std.specs.Prelude.{◌≡◌};
 ghost use Rattle.chem_core.specs.Molecule.{Molecule, IsMolecule};
 ghost use Rattle.exact_find.specs.declared.key.Key.{Key};

@@ -1,4 +1,4 @@
-//! How many bonds lead from one atom to others.
+//! The number of bonds that lead from one atom to others.
 ghost use Rattle.std.specs.Prelude.{◌≡◌, ◌<◌, ◌≤◌, ◌+◌, ℕ, List, length, take};
 ghost use Rattle.chem_core.specs.Molecule.{IsMolecule};
 ghost use Rattle.exact_find.specs.Levels.{AreFree, IsReached, IsSpread};
@@ -11,8 +11,8 @@ pub const FAR: u16 = 0xFFFF;
 /// The level of an atom in a pair. It is not passed.
 pub const IN_PAIR: u16 = 0xFFFE;
 
-/// Lists the atoms that hang on an atom, that atom first, and sets their levels: how many bonds lead to them. Bonds
-/// lead through atoms that are `FAR` before. Returns how many atoms there are.
+/// Lists the atoms that hang on an atom, that atom first, and sets their levels: the number of bonds that lead to them.
+/// Bonds lead through atoms that are `FAR` before. Returns the number of atoms.
 pub fn reach(mol: &Mol, start: u16, levels: &mut [u16], list: &mut [u16]) -> usize
     requires molecule { IsMolecule mol.now }
     requires in_range { start < length mol.now.atoms }
@@ -33,7 +33,7 @@ pub fn reach(mol: &Mol, start: u16, levels: &mut [u16], list: &mut [u16]) -> usi
     last
 }
 
-// Lists the neighbours, not listed before, of the atom at a place of the list. Returns how many atoms are listed.
+// Lists the neighbours, not listed before, of the atom at a place of the list. Returns the number of listed atoms.
 fn reach_from(mol: &Mol, levels: &mut [u16], list: &mut [u16], at: usize, before: usize) -> usize
     requires room { length mol.now.atoms ≤ length levels.old }
     requires list_room { length mol.now.atoms ≤ length list.old }

@@ -1,8 +1,8 @@
-//! Exact structures: whether two molecules are the same structure.
+//! Exact structures: a test of whether two molecules are the same structure.
 //!
-//! Two molecules are the same if some one-to-one map of atoms keeps what an atom is and takes the bonds of one to the
-//! bonds of the other. Keys refuse most pairs, since equal structures have equal keys; a search for a map decides the
-//! rest, and colours keep it short where many atoms look alike.
+//! Two molecules are the same if a one-to-one map takes atoms to like atoms, and the bonds of one to the bonds of the
+//! other. Keys refuse most pairs, since equal structures have equal keys. A search for a map decides the rest, and
+//! colour refinement keeps it short if many atoms look alike.
 #![tactic(auto)]
 
 mod colours;

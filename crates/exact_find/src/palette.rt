@@ -18,7 +18,7 @@ use std::alloc::{AllocError, Global};
 #[derive(Debug, Drop)]
 pub struct Palette {
     pub colours: Vec<u64>,
-    // for each atom how many bonds lead to it, FAR or IN_PAIR
+    // for each atom the number of bonds that lead to it, FAR or IN_PAIR
     pub levels: Vec<u16>,
     // the atoms whose colours are worked out
     pub list: Vec<u16>,
@@ -41,7 +41,7 @@ impl Palette {
         })
     }
 
-    /// Lists all atoms, with the colours that come from what they are and how many neighbours they have.
+    /// Lists all atoms. The colour of each is its code.
     pub fn start(&mut self, mol: &Mol)
         ensures listed { (x : ℕ) → x < length mol.now.atoms → slice_index self.new.list.items x ≡ x }
         ensures coloured { (x : ℕ) (atom : Atom) → slice_get mol.now.atoms x ≡ Some atom
@@ -68,7 +68,7 @@ impl Palette {
         }
     }
 
-    /// Says that an atom is in a pair, and gives it a colour.
+    /// Marks an atom as being in a pair, and gives it a colour.
     pub fn put(&mut self, atom: u16, colour: u64)
         requires { atom < MOST_ATOMS }
         ensures levels { self.new.levels.items ≡ slice_set self.old.levels.items atom IN_PAIR }
@@ -78,7 +78,7 @@ impl Palette {
         self.colours[usize::from(atom)] = colour;
     }
 
-    /// Lists the atoms that hang on an atom. Returns how many there are.
+    /// Lists the atoms that hang on an atom. Returns their number.
     pub fn reach(&mut self, mol: &Mol, start: u16) -> usize
         requires molecule { IsMolecule mol.now }
         requires in_range { start < length mol.now.atoms }

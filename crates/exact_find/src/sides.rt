@@ -1,6 +1,6 @@
 //! The colours of both molecules, worked out side by side.
 //!
-//! Where the sums of colours differ, no map from one molecule to the other goes on from the pairs.
+//! If the sums of colours differ, no map from one molecule to the other goes on from the pairs.
 ghost use Rattle.std.specs.Prelude.{◌≡◌, ◌<◌, ◌≤◌, ℕ, false, length, slice_index, take, vec_len, IsTrue};
 ghost use Rattle.chem_core.specs.declared.limits.TheConstants.{MOST_ATOMS};
 ghost use Rattle.chem_core.specs.Molecule.{IsMolecule};
@@ -13,7 +13,7 @@ use crate::palette::Palette;
 use chem_core::{MOST_ATOMS, Mol};
 use std::alloc::{AllocError, Global};
 
-// How often colours are worked out anew from those of the neighbours.
+// The number of times that colours are worked out anew from those of the neighbours.
 const ROUNDS: usize = 6;
 
 /// Memory to work out the colours of two molecules.
@@ -23,7 +23,7 @@ pub struct Work {
     right: Palette,
 }
 
-/// The colours of both molecules where no atom is in a pair.
+/// The colours of both molecules if no atom is in a pair.
 #[derive(Debug, Drop)]
 pub struct Rough {
     pub left: Vec<u64>,
@@ -66,7 +66,7 @@ impl Work {
         true
     }
 
-    /// Whether the sums of the colours of the atoms that hang on the last pair are the same on both sides.
+    /// True if the sums of the colours of the atoms that hang on the last pair are the same on both sides.
     pub fn agree(&mut self, left: &Mol, right: &Mol, rough: &Rough, pairs: &[(u16, u16)]) -> bool
         requires partial { IsPartial left.now right.now pairs.now }
         requires some { 0 < length pairs.now }
@@ -85,7 +85,7 @@ impl Work {
         self.settle(left, right, ours, theirs)
     }
 
-    // Says which atoms are in pairs, and gives both atoms of each pair a colour of their own.
+    // Marks the atoms in pairs, and gives both atoms of each pair a colour of their own.
     fn put_all(&mut self, pairs: &[(u16, u16)])
         requires few { (a b : ℕ) → Has pairs.now a b → (a < MOST_ATOMS) × (b < MOST_ATOMS) }
         ensures free { (n : ℕ) → AreFree n self.old.left.levels.items → AreFree n self.new.left.levels.items }
@@ -102,7 +102,7 @@ impl Work {
         }
     }
 
-    // Works out the colours of the atoms listed, and whether the sums are the same after each round.
+    // Works out the colours of the atoms listed. True if the sums are the same after each round.
     fn settle(&mut self, left: &Mol, right: &Mol, ours: usize, theirs: usize) -> bool
         requires left { IsMolecule left.now }
         requires right { IsMolecule right.now }

@@ -1,8 +1,8 @@
-//! Whether two molecules are the same structure: a walk along bonds that pairs atoms.
+//! A test of whether two molecules are the same structure: a walk along bonds that pairs atoms.
 //!
-//! An atom is paired with one that is alike and joined alike to the atoms in pairs; then all that hangs on it is
-//! paired, neighbour by neighbour. Pairs of whole components stay: what is left can be paired beside them if it could
-//! be before. Where several atoms can be the partner, colours tell most of those apart that cannot.
+//! An atom is paired with one that is alike and joined alike to the atoms in pairs. Then all atoms that hang on it are
+//! paired, neighbour by neighbour. Pairs of whole components stay: the rest can be paired beside them if it could be
+//! before. If several atoms can be the partner, colours rule out most of those that cannot.
 ghost use Rattle.std.specs.Prelude.{◌≡◌, ◌<◌, ◌≤◌, ◌+◌, ◌-◌, ◌++◌, ◌∷◌, ◌↔◌, ℕ, [], length, take, vec_len, IsTrue, IfNone, IfSome};
 ghost use Rattle.chem_core.specs.declared.mol.BondKind.{BondKind};
 ghost use Rattle.chem_core.specs.declared.limits.TheConstants.{MOST_ATOMS};
@@ -36,13 +36,13 @@ impl SameScratch {
     }
 }
 
-/// Whether the molecules are the same structure: some one-to-one map of their atoms keeps element, isotope, charge,
-/// hydrogens and whether an atom is aromatic, and takes the bonds of one to the bonds of the other, with their kinds.
+/// True if the molecules are the same structure. That is a one-to-one map of their atoms that keeps element, isotope,
+/// charge, hydrogens and aromaticity. It takes the bonds of one to the bonds of the other, with their kinds.
 ///
-/// Takes no memory. Where several atoms can be the partner of one, the colours of what hangs on them are compared:
-/// levels from that atom, then six rounds over neighbours. So most pairs fail at once that cannot be. The worst case
-/// still takes exponential time: graphs by Cai, Fürer and Immerman, and large symmetric graphs of which few bonds
-/// differ.
+/// Takes no memory. If several atoms can be the partner of one, the colours of the atoms that hang on them are
+/// compared: levels from that atom, then six rounds over neighbours. So most impossible pairs fail at once. The worst
+/// case still takes exponential time: graphs by Cai, Fürer and Immerman, and large symmetric graphs that differ in few
+/// bonds.
 pub fn same(left: &Mol, right: &Mol, scratch: &mut SameScratch) -> bool
     ensures { IsTrue result ↔ IsSame left.now right.now }
 {
@@ -87,7 +87,7 @@ fn pair_all(
     true
 }
 
-// Pairs an atom and all that hangs on it, if they can be.
+// Pairs an atom and all atoms that hang on it, if they can be.
 fn pair_anywhere(
     left: &Mol,
     right: &Mol,
@@ -116,7 +116,7 @@ fn pair_anywhere(
     None
 }
 
-// The same where a bond joins the atom to one whose partner is near.
+// As `pair_anywhere`, if a bond joins the atom to one whose partner is near.
 #[cycle(walk)]
 fn pair_beside(
     left: &Mol,
@@ -152,7 +152,7 @@ fn pair_beside(
     None
 }
 
-// Pairs two atoms and all that hangs on them, if they can be. Compares colours where several atoms can be the partner.
+// Pairs two atoms and all that hang on them, if they can be. Compares colours if several atoms can be the partner.
 #[cycle(walk)]
 fn pair(
     left: &Mol,
@@ -191,7 +191,7 @@ fn pair(
     pair_neighbours(left, right, rough, work, pairs, count, a, b)
 }
 
-// Pairs all that hangs on the atoms of the last pair, if it can be.
+// Pairs all atoms that hang on the atoms of the last pair, if they can be.
 #[cycle(walk)]
 fn pair_neighbours(
     left: &Mol,
@@ -234,7 +234,7 @@ fn pair_neighbours(
     }
 }
 
-// Whether several neighbours of the right atom are in no pair and have the left atom's colour.
+// True if several neighbours of the right atom are in no pair and have the left atom's colour.
 fn are_several(right: &Mol, rough: &Rough, pairs: &[(u16, u16)], a: u16, near: u16) -> bool
     requires a_in_range { a < MOST_ATOMS }
     requires near_in_range { near < length right.now.atoms }
@@ -254,7 +254,7 @@ fn are_several(right: &Mol, rough: &Rough, pairs: &[(u16, u16)], a: u16, near: u
     false
 }
 
-// Whether all neighbours of the right atom are in pairs.
+// True if all neighbours of the right atom are in pairs.
 fn are_paired(right: &Mol, pairs: &[(u16, u16)], b: u16) -> bool
     requires { b < length right.now.atoms }
     ensures { IsTrue result ↔ ((c : ℕ) (kind : BondKind) → HasBond right.now b c kind

@@ -1,4 +1,4 @@
--- What one call of a pass tells. For private clauses alone.
+-- The effect of one call of a pass. For private clauses alone.
 use Rattle.std.specs.Prelude.{◌≡◌, ◌⊎◌, ◌++◌, Bool, List, [], ◌∷◌, false, true, ℕ}
 use Rattle.store_core.specs.Calls.{Calls, WornAs}
 use Rattle.store_machine.specs.Searches.{KeepsPin}

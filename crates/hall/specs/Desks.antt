@@ -19,11 +19,11 @@ module _ {D : Type 0} where
   abbrev pub IsAt : HallPass D → State → Type 0
   IsAt p s = (origin : Origin D) × IsFrom origin p × (s ≡ after origin.state (known p).seen)
 
-  -- it has seen as many events as the hall has turns
+  -- it has seen an event for each of the hall's turns
   abbrev pub IsWorn : HallPass D → Type 0
   IsWorn p = length (known p).seen ≡ (known p).turns
 
-  -- a pass later: of each hall of which it was, with the same numbers. It has not seen more events than there are turns
+  -- a pass later: of each of its halls, with the same numbers. It has not seen more events than there are turns
   pub record Stays (p q : HallPass D) : Type 0 where
     pub of : (h : Hall D) → IsOf h p → IsOf h q
     pub origin : (known q).origin ≡ (known p).origin
@@ -32,7 +32,7 @@ module _ {D : Type 0} where
     pub turns : (known q).turns ≡ (known p).turns
     pub within : length (known p).seen ≤ (known p).turns → length (known q).seen ≤ (known q).turns
 
-  -- what it has seen more is a part of the one run of its hall
+  -- the events that it has seen since are a part of the one run of its hall
   pub record Stretches (p q : HallPass D) (s : State) (steps : List Step) (t : State) : Type 0 where
     pub begins : IsAt p s
     pub ends : IsAt q t

@@ -1,4 +1,4 @@
--- For callers: passes of a hall, and what its calls tell of them.
+-- For callers: passes of a hall, and the effects of its calls on them.
 use Rattle.std.specs.Prelude.{◌≡◌, ◌⊎◌, ◌≤◌, ◌^◌, ◌↔◌, Bool, [], ◌∷◌, length, true, ℕ}
 use Rattle.disk_edge.specs.Disk.{DiskModel}
 use Rattle.store_machine.specs.Machine.{Holds}
@@ -20,8 +20,8 @@ abbrev pub by : Step → ℕ
 by x = x.owner
 
 module _ {D : Type 0} where
-  -- What a pass knows: its numbers, the events that it has seen, in the root pass how many numbers were given, and how
-  -- many turns the hall has.
+  -- The knowledge of a pass: its numbers, the events that it has seen, and the number of the hall's turns. The root
+  -- pass also knows the number of given numbers.
   abbrev pub known : HallPass D → Known (Kept D) Step (Origin D)
   known p = gate.known p.pass
 
@@ -38,7 +38,7 @@ module _ {D : Type 0} where
   abbrev pub IsWhole : HallPass D → Type 0
   IsWhole p = gate.IsWhole p.pass
 
-  -- it was taken by one of the pass's numbers, and not given back, in what the pass has seen
+  -- one of the pass's numbers took the pin, and by the events that the pass has seen it was not given back
   pub record HoldsPin (p : HallPass D) (slot version : ℕ) : Type 0 where
     pub origin : Origin D
     pub of : IsFrom origin p
@@ -46,8 +46,8 @@ module _ {D : Type 0} where
     pub own : has (known p).numbers owner ≡ true
     pub held : Holds (after origin.state (known p).seen) slot owner version
 
-  -- What the pass has seen is a run without a crash from where its hall's history begins, of no more events than the
-  -- hall has turns. It is so of the first pass, and stays so at desks, by splits and by joins
+  -- The events that the pass has seen are a run without a crash from the start of its hall's history. There is at most
+  -- one for each of the hall's turns. It is so of the first pass, and stays so at desks, by splits and by joins
   pub record Runs (p : HallPass D) : Type 0 where
     pub origin : Origin D
     pub of : IsFrom origin p
@@ -56,8 +56,8 @@ module _ {D : Type 0} where
     pub within : length (known p).seen ≤ (known p).turns
 
 module _ {D : Type 0} (model : DiskModel D) where
-  -- the first pass: the history begins with the store that was given, at a state for which it stood and at which no pin
-  -- was held, as an opening leaves it where the store is said to have been just opened
+  -- the first pass: the history begins with the given store, at a state of it at which no pin was held. If the store
+  -- was just opened, this is as after an opening
   pub record Begins (store : StoreTerm D) (opened : Bool) (p : HallPass D) : Type 0 where
     pub origin : Origin D
     pub of : IsFrom origin p
@@ -79,18 +79,18 @@ module _ {D : Type 0} (model : DiskModel D) where
         (after origin.state (known p).seen)
 
 module _ {D : Type 0} where
-  -- the pass has seen what both had, and has the numbers of both
+  -- the pass has seen all events that both had seen, and has the numbers of both
   abbrev pub Merged : HallPass D → HallPass D → HallPass D → Type 0
   Merged p o q = gate.Merged by p.pass o.pass q.pass
 
-  -- and the pins of both, where what it has seen is a run
+  -- and the pins of both, if the events that it has seen are a run
   abbrev pub HasBoth : HallPass D → HallPass D → HallPass D → Type 0
   HasBoth p o q =
       (origin : Origin D) → IsFrom origin q
       → IsRun origin.state (known q).seen (after origin.state (known q).seen) → IsCalm (known q).seen
       → (slot version : ℕ) → HoldsPin q slot version ↔ (HoldsPin p slot version ⊎ HoldsPin o slot version)
 
-  -- the pass holds no pin, where none is held as its hall's history begins, and what it has seen is a run
+  -- the pass holds no pin, if no pin is held as its hall's history begins, and the events that it has seen are a run
   abbrev pub HoldsNone : HallPass D → Type 0
   HoldsNone p =
       (origin : Origin D) → IsFrom origin p → origin.state.pins ≡ []

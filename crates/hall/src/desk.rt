@@ -1,4 +1,4 @@
-//! A desk of a hall: a service, each call of which is one turn of its pass.
+//! A desk of a hall: a service whose calls are turns of its pass.
 ghost use Rattle.std.specs.Prelude.{◌≡◌};
 ghost use Rattle.turn_gate.specs.Ids.{IsOf-prop};
 ghost use Rattle.hall.specs.Passes.{IsOf};
@@ -13,9 +13,9 @@ use store_core::{
     CallFault, Change, CommitFault, Compact, CompactFault, Look, Page, Service, Stats, Steps,
 };
 
-/// A pass at its hall. Each call waits for a turn and is one event of the hall's history, which begins with all that
-/// the pass had seen; the pass has then seen that history and its event. Each call is answered `Worn` exactly where the
-/// hall's turns were all taken: it is then no event.
+/// A pass at its hall. Each call waits for a turn and is one event of the hall's history, which begins with all events
+/// that the pass had seen. The pass has then seen that history and its event. Each call is answered `Worn` exactly if
+/// the hall's turns were all taken: it is then no event.
 pub struct Desk<'h, R: Wait, D: Disk> {
     rt: &'h R,
     hall: &'h Hall<D>,

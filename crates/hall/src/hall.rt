@@ -9,7 +9,7 @@ use std::snapshot::Snapshot;
 use store_disk::Store;
 use turn_gate::{Gate, Pass};
 
-/// How many turns a hall has.
+/// The number of turns of a hall.
 pub const TURNS: u64 = 1 << 63;
 
 /// One store, on which passes take turns.
@@ -17,8 +17,8 @@ pub struct Hall<D: Disk> {
     pub(crate) gate: Gate<Kept<D>>,
 }
 
-/// What its holder has seen of a hall's history. It takes no bytes. A hall is never closed without the numbers of a
-/// pass that was dropped.
+/// The part of a hall's history that its holder has seen. It takes no bytes. A hall is never closed without the numbers
+/// of a pass that was dropped.
 #[derive(Drop)]
 pub struct HallPass<D: Disk> {
     pub(crate) pass: Pass<Kept<D>>,
@@ -32,9 +32,9 @@ impl<D: Disk + Drop> Hall<D> {
     ghost use Rattle.hall.specs.Histories.{IsStart};
     ghost use Rattle.hall.specs.Passes.{Begins, Ends, HasBoth, HoldsNone, HoldsPin, IsOf, IsRoot, IsWhole, Merged, Runs, known};
 
-    /// A hall of a store of which no pin is held, and its root pass, which is whole and has seen no event. The hall has
-    /// 2^63 turns. Its history begins at one state for which the store stands. Only contracts read `opened`, which says
-    /// whether the store was just opened: that state is then as an opening leaves it. An error gives the store back.
+    /// A hall of a store without held pins, and its root pass, which is whole and has seen no event. The hall has 2^63
+    /// turns. Its history begins at one state of the store. Only contracts read `opened`: true if the store was just
+    /// opened; that state is then as after an opening. An error gives the store back.
     pub fn start(
         alloc: Global,
         store: Store<D>,
@@ -57,7 +57,7 @@ impl<D: Disk + Drop> Hall<D> {
         }
     }
 
-    /// The root pass gives the next number to a new pass, which has seen what it had seen, and holds no pin. The root
+    /// The root pass gives the next number to a new pass, which has seen the same events, and holds no pin. The root
     /// pass keeps its pins. Takes no memory.
     pub fn split(&self, pass: &mut HallPass<D>) -> HallPass<D>
         requires of { IsOf self.now pass.old }
@@ -74,7 +74,7 @@ impl<D: Disk + Drop> Hall<D> {
         }
     }
 
-    /// The pass takes in another, with its numbers behind its own, and so with its pins. Takes no memory.
+    /// The pass takes in another, with its numbers after its own, and so with its pins. Takes no memory.
     pub fn join(&self, pass: &mut HallPass<D>, other: HallPass<D>)
         requires of { IsOf self.now pass.old }
         requires other { IsOf self.now other }
@@ -86,8 +86,8 @@ impl<D: Disk + Drop> Hall<D> {
         self.gate.join(&mut pass.pass, other.into_pass());
     }
 
-    /// Gives the store back. It stands for the state after the whole history, which is what the pass had seen, with its
-    /// counts of faults and its clocks. Pins that were not given back stay held. Takes no memory.
+    /// Gives the store back, in the state after the whole history, which the pass had seen, with its counts of faults
+    /// and its clocks. Pins that were not given back stay held. Takes no memory.
     pub fn close(self, pass: HallPass<D>) -> Store<D>
         requires of { IsOf self pass }
         requires whole { IsWhole pass }

@@ -1,4 +1,4 @@
-//! What is under the gate of a hall: the store, and the last call on it, which only contracts read.
+//! The value under the gate of a hall: the store, and the last call on it, which only contracts read.
 ghost use Rattle.std.specs.Prelude.{◌≡◌, ◌≤◌, ◌++◌, [], All, false, IfErr, IfOk, length, List, OnErr, ℕ};
 ghost use Rattle.std.specs.Arc.{arc_value};
 ghost use Rattle.store_core.specs.Calls.{NeedsNone, is_compact_worn, is_worn, is_worn_out};
@@ -23,8 +23,8 @@ use store_disk::Store;
 use store_machine::{State, Step};
 use turn_gate::Stands;
 
-/// Where a hall's history begins: the store as it was given, the state for which it stood, and whether it was just
-/// opened. No value of it is made.
+/// The start of a hall's history: the store as it was given, its state, and whether it was just opened. No value of it
+/// is made.
 pub struct Origin<D: Disk> {
     pub store: Store<D>,
     pub state: State,
@@ -91,8 +91,8 @@ impl<D: Disk> Stands for Kept<D> {
     ghost number = { λ e. e.owner };
 }
 
-// Each call adds one step to every history for which the store stands. It is told by the value, and may be of any
-// owner, but for a fetch and an unpin, which are of the owner of their pin.
+// Each call adds one step to every history of the store. The value shows the step. Its owner may be any, but a fetch
+// and an unpin have the owner of their pin.
 impl<D: Disk + Drop> Kept<D> {
     // Before any call. An error gives the store back.
     pub(crate) fn new(

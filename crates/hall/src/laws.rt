@@ -1,4 +1,4 @@
-//! The laws of runs and of stores on which the hall's proofs stand.
+//! The laws of runs and of stores that the hall's proofs use.
 ghost use Rattle.store_machine.specs.Laws.{PinsStay};
 ghost use Rattle.store_machine.specs.Owners.{OwnersAreFree};
 ghost use Rattle.hall.specs.Histories.{AsksNoOwner};

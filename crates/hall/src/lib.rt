@@ -1,9 +1,9 @@
 //! A hall: one store, on which passes in any threads take turns.
 //!
 //! A pass of the hall sits at a `Desk`, which is a `Service`: each call is one turn on the store. All turns together
-//! are one history, a run of the machine that begins at a state for which the store stood when the hall was made. A
-//! pass has seen a beginning of it with all of its own calls. The pass that has every number knows the whole history,
-//! and gets the store back, which stands for its last state.
+//! are one history, a run of the machine that begins at the store's state when the hall was made. A pass has seen a
+//! beginning of it with all of its own calls. The pass that has every number knows the whole history, and gets the
+//! store back, in its last state.
 #![tactic(auto)]
 
 mod desk;

@@ -1,4 +1,4 @@
--- What the line buffer holds. For private clauses alone.
+-- The bytes in the line buffer. For private clauses alone.
 use Rattle.std.specs.Prelude.{◌≡◌, ◌++◌, ℕ, List, Option, length}
 use Rattle.io_edge.specs.Source.{Leaves}
 

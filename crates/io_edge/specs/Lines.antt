@@ -1,8 +1,8 @@
--- The lines of a text, and how far a text was read. For callers.
+-- The lines of a text, and the progress of a reading. For callers.
 use Rattle.std.specs.Prelude.{◌≡◌, ◌<◌, ◌+◌, ◌-◌, ◌⊎◌, ℕ, Bool, true, false, IsTrue, List, [], ◌∷◌, ◌++◌, length, map, nat_lt, ◌==◌, if◌then◌else◌, Contains}
 use Rattle.io_edge.specs.declared.lines.TheConstants.{LF, CR, LONGEST_LINE}
 
--- a line as it is answered: its text, or how many bytes it has, where it is too long
+-- a line as it is answered: its text, or its number of bytes if it is too long
 pub data TextLine : Type 0 where
   Whole : (bytes : List ℕ) → TextLine
   TooLong : (size : ℕ) → TextLine
@@ -17,7 +17,7 @@ abbrev pub before_first : ℕ → List Piece → List Piece
 before_first b [] = record { bytes = b ∷ []; ended = false } ∷ []
 before_first b (piece ∷ rest) = record piece { bytes = b ∷ piece.bytes } ∷ rest
 
--- the pieces of a text, one for each LF, and one for the bytes behind the last LF where there are some
+-- the pieces of a text: one for each LF, and one for the bytes after the last LF, if there are any
 abbrev pub pieces : List ℕ → List Piece
 pieces [] = []
 pieces (b ∷ bs) = if b == LF then (record { bytes = []; ended = true } ∷ pieces bs) else before_first b (pieces bs)
@@ -36,7 +36,7 @@ text_of piece = if piece.ended then without_cr piece.bytes else piece.bytes
 abbrev pub as_line : List ℕ → TextLine
 as_line text = if nat_lt LONGEST_LINE (length text) then TooLong (length text) else Whole text
 
--- the rest of a text as a line, of which the first bytes were dropped, this many
+-- the rest of a text as a line, after its first `dropped` bytes were dropped
 abbrev pub rest_as_line : ℕ → List ℕ → TextLine
 rest_as_line dropped text =
     if nat_lt LONGEST_LINE (dropped + length text) then TooLong (dropped + length text) else Whole text
@@ -54,15 +54,15 @@ ended_pieces (piece ∷ rest) = if piece.ended then piece ∷ ended_pieces rest 
 abbrev pub whole_lines : List ℕ → List TextLine
 whole_lines bytes = map (λ piece. as_line (text_of piece)) (ended_pieces (pieces bytes))
 
--- the lines of pieces, where the first bytes of the first piece were dropped, this many
+-- the lines of pieces, if the first `dropped` bytes of the first piece were dropped
 abbrev pub lines_behind : ℕ → List Piece → List TextLine
 lines_behind dropped [] = []
 lines_behind dropped (piece ∷ rest) =
     rest_as_line dropped (text_of piece) ∷ map (λ piece. as_line (text_of piece)) rest
 
--- How far a text was read: the bytes that were taken, not answered, and kept; how many bytes were dropped of the front
--- of the line under way, which is then too long whatever follows; how many bytes were taken, and how many may be;
--- whether the end was met; the text of the line that the last call answered.
+-- The progress of a reading. `pending`: the bytes that were taken, kept and not answered. `dropped`: the number of
+-- bytes that were dropped from the front of the line under way, which is then too long. `taken` and `limit`: the number
+-- of bytes that were taken, and that may be. `ended`: the end was met. `text`: the last line's text.
 pub record Reading : Type 0 where
   pub pending : List ℕ
   pub dropped : ℕ
@@ -71,11 +71,11 @@ pub record Reading : Type 0 where
   pub ended : Bool
   pub text : List ℕ
 
--- the lines that are still to be answered, where these bytes are left in the source
+-- the lines that are still to be answered, if `left` is left in the source
 abbrev pub lines_left : Reading → List ℕ → List TextLine
 lines_left reading left = lines_behind reading.dropped (pieces (reading.pending ++ left))
 
--- A whole line is left to answer in what was taken: an LF, or the end was met behind bytes or a long line.
+-- A whole line is left to answer in the taken bytes: an LF, or the end was met after bytes or a long line.
 abbrev pub HasWholeLine : Reading → Type 0
 HasWholeLine reading = Contains reading.pending LF
     ⊎ (IsTrue reading.ended × ((0 < length reading.pending) ⊎ (0 < reading.dropped)))
@@ -85,7 +85,7 @@ pub record AwaitsBytes (reading : Reading) : Type 0 where
   pub not_ended : reading.ended ≡ false
   pub none : ¬ HasWholeLine reading
 
--- as many bytes were taken as may be, the end was not met, and no whole line is left to answer
+-- all bytes that may be taken were taken, the end was not met, and no whole line is left to answer
 pub record IsAtLimit (reading : Reading) : Type 0 where
   pub all : reading.taken ≡ reading.limit
   pub not_ended : reading.ended ≡ false
@@ -97,6 +97,6 @@ pub record IsFinished (reading : Reading) : Type 0 where
   pub none : reading.pending ≡ []
   pub short : reading.dropped ≡ 0
 
--- how many of the bytes that were taken belong to lines that were answered, or were dropped
+-- the number of taken bytes that belong to answered lines, or were dropped
 abbrev pub done_bytes : Reading → ℕ
 done_bytes reading = reading.taken - length reading.pending

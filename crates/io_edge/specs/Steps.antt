@@ -11,22 +11,22 @@ use Rattle.io_edge.specs.Cut.{HasNoLf}
 use Rattle.io_edge.specs.Lines.{Reading, lines_left, HasWholeLine, IsAtLimit, IsFinished, done_bytes}
 use Rattle.io_edge.specs.NextLine.{Answers, Counts, OnLine, OnText, OnNoText}
 
--- what holds of each reading
+-- facts that hold of each reading
 pub record IsSound (reading : Reading) : Type 0 where
   pub pending : reading.dropped + length reading.pending ≤ reading.taken
   pub within : reading.taken ≤ reading.limit
   pub front : 0 < reading.dropped → LONGEST_LINE < reading.dropped
   pub rest : 0 < reading.dropped → 0 < length reading.pending
 
--- whether the next line is too long, if its text has so many bytes behind those that were dropped
+-- true if the next line is too long, if its text has `text_len` bytes after those that were dropped
 abbrev pub is_long : Reading → ℕ → Bool
 is_long reading text_len = nat_lt LONGEST_LINE (reading.dropped + text_len)
 
--- what the front of the pending bytes is, as a line of such a text
+-- the front of the pending bytes, as a line whose text has this length
 abbrev pub front_line : Reading → ℕ → Line
 front_line reading text_len = if is_long reading text_len then Long (reading.dropped + text_len) else Text
 
--- the reading behind that line, which takes len bytes
+-- the reading after that line, which takes len bytes
 abbrev pub behind_line : Reading → ℕ → ℕ → Reading
 behind_line reading text_len len = record reading {
   pending = drop len reading.pending;
@@ -34,7 +34,7 @@ behind_line reading text_len len = record reading {
   text = if is_long reading text_len then [] else take text_len reading.pending;
 }
 
--- a whole line was cut off what was taken
+-- a whole line was cut off the taken bytes
 pub record CutsLine (line : Line) (old new : Reading) : Type 0 where
   pub whole : HasWholeLine old
   pub is_line : line ≢ End
@@ -46,7 +46,7 @@ pub record CutsLine (line : Line) (old new : Reading) : Type 0 where
   pub fits : OnText (Ok line) (length new.text ≤ LONGEST_LINE)
   pub none : OnNoText (Ok line) (new.text ≡ [])
 
--- what was taken was enough for an answer
+-- the taken bytes were enough for an answer
 pub record AnswersHeld (answer : Result Line LineFault) (old new : Reading) : Type 0 where
   pub lines : Answers answer old [] new
   pub taken : new.taken ≡ old.taken
@@ -69,7 +69,7 @@ pub record NeedsMore (reading : Reading) : Type 0 where
   pub not_ended : reading.ended ≡ false
   pub below : reading.taken < reading.limit
 
--- where the source tells what is left, before and then now, nothing is left now
+-- if the bytes left in the source are known, before and now, no byte is left now
 abbrev pub IsEndOf : Option (List ℕ) → Option (List ℕ) → Type 0
 IsEndOf None new = Unit {0}
 IsEndOf (Some xs) new = IsAtEnd new

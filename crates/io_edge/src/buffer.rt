@@ -1,6 +1,6 @@
-//! The bytes that were taken from a source and not answered, in one block of fixed length.
-//! They stand between two places of the block. They are moved to its front only where no room is behind them,
-//! so a byte is moved at most twice, where no more than half of the block is ever held back.
+//! The bytes that were taken from a source and not answered, between two places in one block of fixed length. They are
+//! moved to its front only if no room is after them. So a byte is moved at most twice, if at most half of the block is
+//! ever held back.
 ghost use Rattle.std.specs.Prelude.{◌≡◌, ◌<◌, ◌≤◌, ◌+◌, ◌-◌, [], length, take, drop, IfOk, vec_len};
 ghost use Rattle.std.specs.Io.KnownBytes.{IsAtEnd};
 ghost use Rattle.io_edge.specs.Faults.{Rose};
@@ -84,7 +84,7 @@ impl Buffer {
         self.start += len;
     }
 
-    /// Takes the next bytes of the source, at most so many, behind those that are held. The text is gone.
+    /// Takes the next bytes of the source, at most `most`, and adds them after the held bytes. The text is gone.
     pub(crate) fn fill<S: Source>(&mut self, source: &mut S, most: u64) -> Take
         requires some { 0 < most }
         requires room { length self.old.bytes < CAPACITY }
@@ -109,8 +109,8 @@ impl Buffer {
     }
 }
 
-// Moves the bytes of a block from `start` to `end` to its front, where no room is behind them. It returns
-// where they stand then.
+// Moves the bytes of a block from `start` to `end` to its front, if no room is after them. Returns their new start and
+// end.
 fn with_room(block: &mut [u8], start: usize, end: usize) -> (usize, usize)
     requires order { start ≤ end }
     requires within { end ≤ length block.old }
@@ -130,7 +130,7 @@ fn with_room(block: &mut [u8], start: usize, end: usize) -> (usize, usize)
     (0, end - start)
 }
 
-// Takes the next bytes of a source, at most so many, to a place of the block.
+// Takes the next bytes of a source, at most `most`, to the place `at` of the block.
 fn take_at<S: Source>(source: &mut S, block: &mut [u8], at: usize, most: usize) -> Take
     requires some { 0 < most }
     requires room { at + most ≤ length block.old }

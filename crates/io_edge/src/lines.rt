@@ -1,7 +1,6 @@
-//! The lines of a source, in whatever pieces its bytes come.
-//! `next_line` promises that the lines that are answered are those of the text, in order, that a fault loses
-//! none, and that no more is taken than a call needs or the limit allows.
-//! It stands on the line buffer, which holds what was taken and not answered.
+//! The lines of a source, in whatever pieces its bytes come. `next_line` promises that the answered lines are those of
+//! the text, in order, and that a fault loses no line. No more bytes are taken than a call needs or the limit allows.
+//! The line buffer holds the bytes that were taken and not answered.
 ghost use Rattle.std.specs.Prelude.{◌≡◌, ◌≤◌, ◌<◌, ◌+◌, ◌⊎◌, ℕ, Some, Ok, Err, IsTrue, false, List, [], length, take, IfSome, IfNone, IfOk, IfErr, OnOk, OnErr, position, ◌==◌};
 ghost use Rattle.io_edge.specs.Faults.{Rose};
 ghost use Rattle.io_edge.specs.Source.{Leaves};
@@ -23,25 +22,25 @@ const LF: u8 = b'\n';
 
 const CR: u8 = b'\r';
 
-/// What a call for the next line answers.
+/// The answer of a call for the next line.
 #[derive(Clone, Copy, Debug, PartialEq, Eq)]
 pub enum Line {
     /// A line, which `Lines::text` shows until the next call.
     Text,
-    /// A line of so many bytes, more than `LONGEST_LINE`, which was taken up to its end.
+    /// A line of `size` bytes, more than `LONGEST_LINE`, which was taken up to its end.
     Long { size: u64 },
     /// The source's end was met, and nothing is left to answer.
     End,
 }
 
-/// Why a call for the next line answers none.
+/// The reason why a call for the next line answers no line.
 #[derive(Clone, Copy, Debug, PartialEq, Eq, Error)]
 pub enum LineFault {
     /// The source failed before the limit was reached, and no whole line is left to answer. Nothing is lost: the call
     /// can be made again.
     #[error("the source failed")]
     Source,
-    /// As many bytes were taken as the limit allows, the end was not met, and no whole line is left to answer.
+    /// The limit of bytes was taken, the end was not met, and no whole line is left to answer.
     #[error("the input is too long")]
     TooLong,
 }
@@ -53,10 +52,11 @@ pub struct Lines {
     buffer: Buffer,
     // The first `scanned` bytes of the buffer hold no LF.
     scanned: usize,
-    // How many bytes of the line under way were dropped, which is then too long.
+    // The number of bytes that were dropped from the line under way, which is then too long.
     dropped: u64,
     taken: u64,
     limit: u64,
+    // Whether the source has ended. Nothing more is taken then, and clauses on its rest ask that it is empty.
     ended: bool,
 }
 
@@ -89,7 +89,7 @@ impl Model for Lines {
 
 impl Lines {
     /// The lines of a source of which at most `limit` bytes are taken. All its memory, a block of 128 KiB, is taken
-    /// here; fails only where there is none.
+    /// here; it fails only if memory runs out.
     pub fn new(alloc: Global, limit: u64) -> Result<Lines, AllocError>
         ensures { IfOk result (λ lines. lines ≡ record {
           pending = [];
@@ -111,21 +111,21 @@ impl Lines {
         })
     }
 
-    /// The text of the line that the last call answered. It is empty where that call answered no text.
+    /// The text of the line that the last call answered. It is empty if that call answered no text.
     pub fn text(&self) -> &[u8]
         ensures { result.now ≡ self.now.text }
     {
         self.buffer.text()
     }
 
-    /// Answers the next line of a source, and takes bytes of it where no whole line is left to answer in what
-    /// was taken. It takes no memory. All calls are to be given one source, whose end stays its end.
+    /// Answers the next line of a source, and takes bytes of it if no whole line is left to answer. It takes no memory.
+    /// All calls are to be given one source, whose end stays its end.
     pub fn next_line<S: Source>(&mut self, source: &mut S) -> Result<Line, LineFault>
-        // What was taken, and that the answer is right, however the input goes on.
+        // The bytes that were taken, and that the answer is right, however the input goes on.
         ensures bytes { (got : List ℕ) × Leaves (S.left source.old) got (S.left source.new)
             × Counts self.old got self.new × Answers result self.old got self.new }
 
-        // The same, where the source tells what is left, and has nothing left once its end was met.
+        // As above, if the bytes left in the source are known, and no byte is left once its end was met.
         ensures told { (l l' : List ℕ) → S.left source.old ≡ Some l → S.left source.new ≡ Some l'
             → (IsTrue self.old.ended → l ≡ []) → Told result self.old self.new l l' }
         ensures met { (l l' : List ℕ) → S.left source.old ≡ Some l → S.left source.new ≡ Some l'
@@ -158,7 +158,7 @@ impl Lines {
         }
     }
 
-    // Where the first LF of the pending bytes stands. The text is gone.
+    // The place of the first LF of the pending bytes. The text is gone.
     fn line_end(&mut self) -> Option<usize>
         ensures same { self.new ≡ record self.old { text = [] } }
         ensures none { IfNone result (HasNoLf self.old.pending) }
@@ -197,7 +197,7 @@ impl Lines {
         Line::Text
     }
 
-    // Answers a whole line, if one is left to answer in what was taken. The text is gone where none is.
+    // Answers a whole line of the pending bytes. If there is none, the text is gone.
     fn whole_line(&mut self) -> Option<Line>
         ensures some { IfSome result (λ line. CutsLine line self.old self.new) }
         ensures none { IfNone result (HasNoLf self.old.pending) }
@@ -216,7 +216,7 @@ impl Lines {
         None
     }
 
-    // Answers what can be answered with no more bytes, if something can. The text is gone where nothing can.
+    // Answers without more bytes if that is possible. If not, the text is gone.
     fn held_answer(&mut self) -> Option<Result<Line, LineFault>>
         ensures some { IfSome result (λ answer. AnswersHeld answer self.old self.new) }
         ensures none { IfNone result (NeedsMore self.old) }
@@ -235,7 +235,7 @@ impl Lines {
         None
     }
 
-    // Drops the pending bytes but the last, where their line is too long whatever follows.
+    // Drops the pending bytes but the last, if their line is too long whatever follows.
     fn drop_front(&mut self)
         requires { HasNoLf self.old.pending }
         ensures lines { (rest : List ℕ) → lines_left self.new rest ≡ lines_left self.old rest }
@@ -254,8 +254,8 @@ impl Lines {
         }
     }
 
-    // Takes the next bytes of the source, as many as the limit leaves and the buffer has room for, or meets
-    // the source's end.
+    // Takes the next bytes of the source, at most as the limit and the room of the buffer allow, or meets the source's
+    // end.
     fn take_piece<S: Source>(&mut self, source: &mut S) -> Result<(), LineFault>
         requires none { HasNoLf self.old.pending }
         requires not_ended { self.old.ended ≡ false }
@@ -286,7 +286,7 @@ impl Lines {
     }
 }
 
-// Where the first LF stands, if none stands before `from`.
+// The place of the first LF, if none is before `from`.
 fn first_line_end(bytes: &[u8], from: usize) -> Option<usize>
     requires within { from ≤ length bytes.now }
     requires scanned { HasNoLf (take from bytes.now) }
@@ -297,7 +297,7 @@ fn first_line_end(bytes: &[u8], from: usize) -> Option<usize>
     Some(from + at)
 }
 
-// Where the first LF stands.
+// The place of the first LF.
 fn first_lf(bytes: &[u8]) -> Option<usize>
     ensures { result ≡ position (λ b. b == LF) bytes.now }
 {

@@ -1,4 +1,4 @@
-//! A source and a sink in memory, which fail where they are told to.
+//! A source and a sink in memory, which fail at set calls.
 ghost use Rattle.std.specs.Prelude.{◌≡◌, ◌<◌, ◌≤◌, ◌++◌, ◌^◌, Some, [], OnOk, length, min, take, drop};
 ghost use Rattle.std.specs.Io.KnownBytes.{IsAtEnd, Appends};
 ghost use Rattle.io_edge.specs.Faults.{Rose};
@@ -10,7 +10,7 @@ use crate::sources::{Source, Take};
 use std::alloc::Global;
 use std::marker::Model;
 
-/// Bytes in memory, given piece by piece. Takes fail where they are told to.
+/// Bytes in memory, given piece by piece. Takes fail if their number was set to fail.
 #[derive(Drop)]
 pub struct MemSource {
     bytes: Vec<u8>,
@@ -39,8 +39,8 @@ impl Model for MemSource {
 }
 
 impl MemSource {
-    /// A source of these bytes that gives at most `piece` of them per take. The takes whose numbers, counted
-    /// from 0, stand in `fails` fail. (All takes from number 2^64 - 1 on share that number.)
+    /// A source of these bytes that gives at most `piece` of them per take. The takes whose numbers, counted from 0,
+    /// are in `fails` fail. (All takes from number 2^64 - 1 on share that number.)
     pub fn new(bytes: Vec<u8>, piece: usize, fails: Vec<u64>) -> MemSource
         requires { 1 ≤ piece }
         ensures { result ≡ record { left = bytes.items; piece = piece; fails = fails.items; takes = 0; faults = 0 } }
@@ -61,7 +61,7 @@ impl Source for MemSource {
 
     ghost faults = { λ s. s.faults };
 
-    /// Moves the next bytes, as many as the piece and the room have place for.
+    /// Moves the next bytes, at most one piece, and at most the room.
     fn take(&mut self, room: &mut [u8]) -> Take
         requires { 0 < length room.old }
 
@@ -76,7 +76,7 @@ impl Source for MemSource {
         ensures count { self.old.faults ≤ self.new.faults }
         ensures held { self.new.faults < 2 ^ 64 }
 
-        // Exactly what it answers and leaves.
+        // The exact answer, and the source after it.
         ensures answer { result ≡ feed.answer_of self.old (length room.old) }
         ensures after { self.new ≡ feed.after_take self.old result }
     {
@@ -96,7 +96,7 @@ impl Source for MemSource {
     }
 }
 
-// Copies bytes into the front of the room, at most so many, and returns how many.
+// Copies at most `most` bytes into the front of the room, and returns their number.
 fn copy_front(bytes: &[u8], most: usize, room: &mut [u8]) -> usize
     ensures count { result ≡ min (min most (length room.old)) (length bytes.now) }
     ensures front { bytes.now ≡ take result room.new ++ drop result bytes.now }
@@ -107,7 +107,7 @@ fn copy_front(bytes: &[u8], most: usize, room: &mut [u8]) -> usize
     count
 }
 
-/// Bytes in memory, one put behind the other. Puts fail where they are told to.
+/// Bytes in memory, one put after the other. Puts fail if their number was set to fail.
 #[derive(Drop)]
 pub struct MemSink {
     bytes: Vec<u8>,
@@ -128,8 +128,8 @@ impl Model for MemSink {
 }
 
 impl MemSink {
-    /// A sink with nothing in it. The puts whose numbers, counted from 0, stand in `fails` append nothing
-    /// and fail. (The numbers end at 2^64 - 1, which all later puts have.)
+    /// A sink with nothing in it. The puts whose numbers, counted from 0, are in `fails` append nothing and fail. (The
+    /// numbers end at 2^64 - 1, which all later puts have.)
     pub fn new(alloc: Global, fails: Vec<u64>) -> MemSink
         ensures { result ≡ record { bytes = []; fails = fails.items; puts = 0; faults = 0 } }
     {
@@ -141,7 +141,7 @@ impl MemSink {
         }
     }
 
-    /// What was put.
+    /// The bytes that were put.
     pub fn bytes(&self) -> &[u8]
         ensures { result.now ≡ self.now.bytes }
     {
@@ -164,7 +164,7 @@ impl Sink for MemSink {
         ensures count { self.old.faults ≤ self.new.faults }
         ensures held { self.new.faults < 2 ^ 64 }
 
-        // It fails exactly where it was told to, and exactly this is left.
+        // It fails exactly if its number was set to fail, and exactly this is left.
         ensures exactly { store.is_failed result ≡ store.next_fails self.old }
         ensures after { self.new ≡ store.after_put self.old bytes.now result }
     {

@@ -1,4 +1,4 @@
-//! What bytes are put into.
+//! A sink, into which bytes are put.
 ghost use Rattle.std.specs.Prelude.{◌≡◌, ◌<◌, ◌≤◌, ◌^◌, ℕ, List, [], Option, OnOk};
 ghost use Rattle.std.specs.Io.KnownBytes.{Appends};
 ghost use Rattle.io_edge.specs.Faults.{Rose};
@@ -27,15 +27,15 @@ impl From<AllocError> for PutFault {
     }
 }
 
-/// What bytes are put into, one piece after the other.
+/// A sink, into which bytes are put, one piece after the other.
 pub trait Sink {
-    /// The bytes that were put, where the sink tells them.
+    /// The bytes that were put, if they are known.
     ghost written: { Self → Option (List ℕ) };
 
-    /// How many faults there were. The count stands still at 2^64 - 1.
+    /// The number of faults. The count stays at 2^64 - 1.
     ghost faults: { Self → ℕ };
 
-    /// Puts all of `bytes` behind what was put before.
+    /// Puts all of `bytes` after the earlier ones.
     fn put(&mut self, bytes: &[u8]) -> Result<(), PutFault>
         ensures ok { OnOk result (Appends (written self.old) (written self.new) bytes.now) }
 

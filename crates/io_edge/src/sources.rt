@@ -1,13 +1,13 @@
-//! What bytes are taken from.
+//! A source, from which bytes are taken.
 ghost use Rattle.std.specs.Prelude.{◌<◌, ◌≤◌, ◌≡◌, ◌^◌, ℕ, List, [], Option, length, take, drop};
 ghost use Rattle.std.specs.Io.KnownBytes.{IsAtEnd};
 ghost use Rattle.io_edge.specs.Faults.{Rose};
 ghost use Rattle.io_edge.specs.Source.{Leaves, number_of, IfBytes, OnEnd, OnFailed};
 
-/// What a take answers.
+/// The answer of a take.
 #[derive(Clone, Copy, Debug, PartialEq, Eq)]
 pub enum Take {
-    /// So many bytes, at least one, were moved into the front of the room.
+    /// This number of bytes, at least one, was moved into the front of the room.
     Bytes(usize),
     /// Nothing is left.
     End,
@@ -16,7 +16,7 @@ pub enum Take {
 }
 
 impl Take {
-    /// How many bytes were moved.
+    /// The number of bytes that were moved.
     pub fn number(self) -> usize
         ensures { result ≡ number_of self }
     {
@@ -27,16 +27,15 @@ impl Take {
     }
 }
 
-/// What bytes are taken from, piece by piece.
+/// A source, from which bytes are taken, piece by piece.
 pub trait Source {
-    /// The bytes that are left, where the source tells them.
+    /// The bytes that are left, if they are known.
     ghost left: { Self → Option (List ℕ) };
 
-    /// How many faults there were. The count stands still at 2^64 - 1.
+    /// The number of faults. The count stays at 2^64 - 1.
     ghost faults: { Self → ℕ };
 
-    /// Moves the next bytes, at least one, into the front of `room`. What stands behind them in `room` stays.
-    /// It takes no memory.
+    /// Moves the next bytes, at least one, into the front of `room`. The rest of `room` stays. It takes no memory.
     fn take(&mut self, room: &mut [u8]) -> Take
         requires { 0 < length room.old }
 

@@ -10,14 +10,14 @@ use crate::sources::{Source, Take};
 use std::io;
 use std::io::{ErrorKind, Read, Write};
 
-// How many bytes are read at once, at most.
+// The greatest number of bytes that are read at once.
 const PIECE: usize = 16 * 1024;
 
-// How often a call that a signal interrupted is made again.
+// The number of times that a call is made again after signals interrupted it.
 const TRIES: u32 = 1_000_000;
 
-/// A reader of std as a source. Each error of the reader is a fault, but an interrupted call is made again. Over a
-/// reader whose bytes std's clauses know, it tells what is left. Over a file or a terminal it tells nothing.
+/// A reader of std as a source. Each error of the reader is a fault, but an interrupted call is made again. Contracts
+/// know the bytes left only of a reader whose bytes std's clauses know; not of a file or a terminal.
 #[derive(Drop)]
 pub struct StdSource<R> {
     reader: R,
@@ -58,9 +58,9 @@ impl<R: Read + Drop> Source for StdSource<R> {
     }
 }
 
-/// A writer of std as a sink. Each error of the writer is a fault, but an interrupted call is made again; so is a write
-/// that takes nothing of a piece that is not empty. Over a writer whose bytes std's clauses know, it tells what was
-/// written. Over a file or a terminal it tells nothing.
+/// A writer of std as a sink. Each error of the writer is a fault, but an interrupted call is made again. So is a write
+/// that takes nothing of a piece that is not empty. Contracts know the bytes written only of a writer whose bytes std's
+/// clauses know; not of a file or a terminal.
 #[derive(Drop)]
 pub struct StdSink<W> {
     writer: W,

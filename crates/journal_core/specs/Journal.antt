@@ -1,4 +1,4 @@
--- What a journal stands for. For callers.
+-- The meaning of a journal. For callers.
 use Rattle.std.specs.Prelude.{◌≡◌, ℕ, List, [], ◌∷◌, ◌++◌, length, Some}
 use Rattle.std.specs.List.{AllByRecursion}
 use Rattle.disk_edge.specs.Disk.{DiskModel, Exactly}
@@ -9,8 +9,8 @@ use Rattle.journal_core.specs.Standing.{Standing}
 abbrev pub IsEmptyJournal : {D : Type 0} → DiskModel D → D → Type 0
 IsEmptyJournal model disk = (model.content disk ≡ Some (text header [])) × Exactly (text header []) (model.images disk)
 
--- The journal has read these payloads behind what stands in front: the disk tells its content, which is synced and
--- begins with the front and their records, and the journal stands behind them.
+-- The journal has read these payloads after the front. The disk's content is known and synced, and it begins with the
+-- front and their records; the journal's place is after them.
 pub record Reads {D : Type 0} (model : DiskModel D) (journal : Standing D) (front : List ℕ)
     (payloads : List (List ℕ)) : Type 0 where
   pub told : List ℕ
@@ -21,7 +21,7 @@ pub record Reads {D : Type 0} (model : DiskModel D) (journal : Standing D) (fron
   pub place : journal.place ≡ length (prefix front payloads)
   pub fit : AllByRecursion IsShort payloads
 
--- The disk tells its content. Each image opens to these payloads, and the journal stands at the gate behind them.
+-- The disk's content is known. Each image opens to these payloads, and the journal is at the gate after them.
 pub record Rests {D : Type 0} (model : DiskModel D) (journal : Standing D) (front : List ℕ)
     (payloads : List (List ℕ)) : Type 0 where
   pub told : List ℕ

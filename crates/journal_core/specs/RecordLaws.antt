@@ -1,4 +1,4 @@
--- Laws of what bytes open to. For callers.
+-- Laws of opening bytes. For callers.
 use Rattle.std.proofs.Common.{◌≡◌, ◌≢◌, ◌⊎◌, inl, inr, ⊎_elim, ℕ, ◌+◌, take, drop, List, [], ◌∷◌, ◌++◌, length, refl, sym, ◌∙◌, ap, arith, append_assoc, length-append}
 use Rattle.std.proofs.lemmas.List.{append-nil, take_at, drop_at}
 use Rattle.std.proofs.lemmas.Bool.{cases_eq}
@@ -50,7 +50,7 @@ pub all_short : (payloads : List (List ℕ)) (payload : List ℕ) → AllByRecur
 all_short [] payload fit few = (few, tt)
 all_short (p ∷ payloads) payload fit few = (fit.0, all_short payloads payload fit.1 few)
 
--- one field of length, and one payload behind it
+-- two records at the front of the same bytes have payloads of one length
 same_length : (p q rest rest' : List ℕ) → IsShort p → IsShort q → body p ++ rest ≡ body q ++ rest' → length p ≡ length q
 same_length p q rest rest' fit fit' is =
     let fields : to_le_bytes w32 (length p) ≡ to_le_bytes w32 (length q) =
@@ -82,7 +82,7 @@ same_tail a b xs ys is = cc is
 same_head : (a b : ℕ) (xs ys : List ℕ) → a ∷ xs ≡ b ∷ ys → a ≡ b
 same_head a b xs ys is = cc is
 
--- Records go on: behind some of them these bytes begin with one more, and so does the longer list.
+-- Records go on: after `ps` the bytes begin with one more record, and so does the longer list `qs`.
 pub record GoesOn (ps qs : List (List ℕ)) (bytes : List ℕ) : Type 0 where
   pub payload : List ℕ
   pub rest : List ℕ
@@ -144,7 +144,7 @@ compare front ps qs t u fp fq is =
     ∙ append_assoc front (records qs) u) ∙ drop_at front (records qs ++ u) (length front) refl in
     compare_records ps qs t u fp fq behind
 
--- no record stands at the front of these bytes
+-- no record is at the front of these bytes
 unfoldable pub NoRecord : List ℕ → Type 0
 NoRecord bytes = (ps qs : List (List ℕ)) → GoesOn ps qs bytes → ⊥
 
@@ -166,7 +166,7 @@ broken_none [] broken ps qs on = cc on.is
 broken_none (gate ∷ rest) broken ps qs on =
     broken.1 on.payload on.rest on.short (same_tail gate OPEN rest (body on.payload ++ on.rest) on.is)
 
--- where no record stands, the other reading goes on to there
+-- if one reading has no record after it, the other reading goes on to there
 pub leads_to : (front : List ℕ) (ps qs : List (List ℕ)) (t u : List ℕ) → AllByRecursion IsShort ps
     → AllByRecursion IsShort qs
     → NoRecord u → prefix front ps ++ t ≡ prefix front qs ++ u
@@ -220,13 +220,13 @@ text_opens front ps rest fit = record {
 longer : (ps : List (List ℕ)) (p : List ℕ) → ps ≡ ps ++ p ∷ [] → ⊥
 longer ps p is = omega (arith, ap (λ (l : List (List ℕ)). length l) is, length-append ps (p ∷ []))
 
--- what opens to some payloads does not open to these and one more
+-- bytes that open to payloads do not open to these and one more
 pub never_both : (front : List ℕ) (ps : List (List ℕ)) (p bytes : List ℕ) → Opens front ps bytes
     → Opens front (ps ++ p ∷ []) bytes → ⊥
 never_both front ps p bytes o r = longer ps p (one_list front ps (ps ++ p ∷ []) bytes o r)
 
 module _ (front : List ℕ) (payloads : List (List ℕ)) where
-  -- behind an open gate the record counts
+  -- after an open gate the record counts
   pub opened : (payload bytes rest : List ℕ) → AllByRecursion IsShort payloads → IsShort payload
       → bytes ≡ prefix front payloads ++ OPEN ∷ (body payload ++ CLOSED ∷ rest)
       → Opens front (payloads ++ payload ∷ []) bytes

@@ -1,6 +1,5 @@
--- The bytes of a journal: a header, and then records, each a gate byte, the payload's length in four bytes, the lowest
--- first, and the payload. A record counts where its gate is open. Behind an open record stands the next gate.
--- For callers.
+-- The bytes of a journal: a header, and then records. A record is a gate byte, the payload's length in four bytes
+-- (little-endian) and the payload. It counts if its gate is open, and the next gate follows it. For callers.
 use Rattle.std.specs.Prelude.{◌≡◌, ◌≢◌, ◌≤◌, ◌⊎◌, ℕ, List, [], ◌∷◌, ◌++◌, length, codes}
 use Rattle.std.specs.List.{AllByRecursion}
 use Rattle.std.specs.Int.{to_le_bytes, w32}
@@ -9,7 +8,7 @@ use Rattle.journal_core.specs.declared.format.TheConstants.{OPEN, CLOSED, LONGES
 abbrev pub header : List ℕ
 header = 0x5a ∷ codes "CHEMDB1"
 
--- what stands behind the gate of a record
+-- the bytes after the gate of a record
 abbrev pub body : List ℕ → List ℕ
 body payload = to_le_bytes w32 (length payload) ++ payload
 
@@ -18,18 +17,18 @@ abbrev pub records : List (List ℕ) → List ℕ
 records [] = []
 records (payload ∷ payloads) = (OPEN ∷ body payload) ++ records payloads
 
--- what stands in front, and these records
+-- the front, and these records
 unfoldable pub prefix : List ℕ → List (List ℕ) → List ℕ
 prefix front payloads = front ++ records payloads
 
--- a whole file: what stands in front, these records and a closed gate
+-- a whole file: the front, these records and a closed gate
 abbrev pub text : List ℕ → List (List ℕ) → List ℕ
 text front payloads = prefix front payloads ++ CLOSED ∷ []
 
 abbrev pub IsShort : List ℕ → Type 0
 IsShort payload = length payload ≤ LONGEST_PAYLOAD
 
--- The bytes open to these payloads: their records are open, and behind them stands a gate that is not.
+-- The bytes open to these payloads: their records are open, and a gate that is not open follows.
 pub record Opens (front : List ℕ) (payloads : List (List ℕ)) (bytes : List ℕ) : Type 0 where
   pub gate : ℕ
   pub rest : List ℕ
@@ -43,7 +42,7 @@ IsBroken [] = Unit {0}
 IsBroken (gate ∷ rest) = (gate ≡ OPEN)
     × ((payload behind : List ℕ) → IsShort payload → rest ≡ body payload ++ behind → ⊥)
 
--- Open records of these payloads, and behind them what is broken.
+-- Open records of these payloads, and then broken bytes.
 pub record Breaks (front : List ℕ) (payloads : List (List ℕ)) (bytes : List ℕ) : Type 0 where
   pub tail : List ℕ
   pub is : bytes ≡ prefix front payloads ++ tail
@@ -54,7 +53,7 @@ pub record Breaks (front : List ℕ) (payloads : List (List ℕ)) (bytes : List 
 abbrev pub IsNoJournal : List ℕ → Type 0
 IsNoJournal bytes = (rest : List ℕ) → bytes ≡ header ++ rest → ⊥
 
--- Open records of these payloads, any gate, and behind it this payload's record and a closed gate.
+-- Open records of these payloads, any gate, and after it this payload's record and a closed gate.
 pub record Staged (front : List ℕ) (payloads : List (List ℕ)) (payload bytes : List ℕ) : Type 0 where
   pub gate : ℕ
   pub rest : List ℕ

@@ -2,9 +2,8 @@
 use Rattle.std.specs.Prelude.{ℕ, Bool}
 use Rattle.journal_core.specs.declared.header.Header.{Header}
 
--- Its disk; its header, and how many base records are left to read; the place of the record or gate at which it stands;
--- whether a gate that is there was found not open or was written, so that it may be appended to; whether a payload is
--- in doubt.
+-- Its disk, its header, the number of base records left to read, and the place of the next record or gate. `ready`: a
+-- gate there was found not open or was written, so that the journal may be appended to. `doubt`: a payload is in doubt.
 pub record Standing (D : Type 0) : Type 0 where
   pub disk : D
   pub header : Header

@@ -10,7 +10,7 @@ use crate::window::Window;
 use disk_edge::{Disk, DiskFail};
 use std::alloc::Global;
 
-/// The payload of the base record at a place. `None` where its length or payload is missing, or the length is 0 or too
+/// The payload of the base record at `place`. `None` if its length or payload is missing, or its length is 0 or too
 /// great.
 pub(crate) fn base_at<D: Disk>(
     alloc: Global,

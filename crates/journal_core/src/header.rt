@@ -1,12 +1,12 @@
-//! What a journal's file says of itself.
+//! The header of a journal's file.
 
-/// What a file says of itself. All three are 0 in format 1.
+/// The numbers of a file's header. All three are 0 in format 1.
 #[derive(Clone, Copy, Debug, PartialEq, Eq)]
 pub struct Header {
-    /// How many copies led to this one.
+    /// The number of copies that led to this one.
     pub generation: u32,
     /// The version at which the base records give the store's state.
     pub base_version: u32,
-    /// How many base records there are.
+    /// The number of base records.
     pub base_count: u32,
 }

@@ -1,5 +1,5 @@
-//! A journal that is appended to. `append` reads in the order of an atomic commit: the record is written behind a gate
-//! that is not open, with a closed gate behind it, and synced; then the gate is opened, and synced.
+//! A journal that is appended to. `append` is an atomic commit: first the record is written after a gate that is not
+//! open, with a closed gate after it, and synced. Then the gate is opened, and synced.
 
 ghost use Rattle.std.specs.Prelude.{◌≡◌, ◌≢◌, ◌<◌, ◌≤◌, ◌+◌, ◌^◌, [], ◌∷◌, ◌++◌, ℕ, List, None, Some, drop, take, true, false, length, OnOk, OnErr, IfOk};
 ghost use Rattle.disk_edge.specs.Disk.{IfTold, Keeps, OnFailed, OnNoMemory, Counted, Faulted};
@@ -18,9 +18,10 @@ use disk_edge::{Disk, DiskFail, MemDisk};
 use std::alloc::{AllocError, Global};
 use std::marker::Model;
 
-/// A journal on a disk. It stands at a gate: of the next record to read, or of the next to append.
+/// A journal on a disk, at a gate: of the next record to read, or of the next to append.
 #[derive(Drop)]
 pub struct Journal<D: Disk> {
+    // for the window, which may grow after the journal was made
     pub(crate) alloc: Global,
     pub(crate) disk: D,
     pub(crate) header: Header,
@@ -51,7 +52,7 @@ impl<D: Disk> Model for Journal<D> {
 }
 
 impl<D: Disk> Journal<D> {
-    /// A journal at a gate that is not open, which may be appended to: the gate is at this place of the disk, and the
+    /// A journal at a gate that is not open, which may be appended to. The gate is at this place of the disk, and the
     /// header is the disk's. An open gate is refused, since an append would write over its record. Takes no memory.
     pub fn at_gate(alloc: Global, disk: D, header: Header, place: u64) -> Journal<D>
         requires gate { IfTold (D.model.content disk) (λ l. place < length l) }
@@ -77,8 +78,8 @@ impl<D: Disk> Journal<D> {
         }
     }
 
-    /// Adds a payload of 1 to 1,048,576 bytes at the gate at which the journal stands. At `Ok` it is acknowledged: each
-    /// crash from then on leaves it.
+    /// Adds a payload of 1 to 1,048,576 bytes at the journal's gate. At `Ok` it is acknowledged: no later crash loses
+    /// it.
     pub fn append(&mut self, payload: &[u8]) -> Result<(), AppendFault>
         requires ready { self.old.ready ≡ true }
         requires sure { self.old.doubt ≡ false }
@@ -178,21 +179,21 @@ impl<D: Disk> Journal<D> {
         }
     }
 
-    /// Whether a payload is in doubt: some crash leaves it, though it was not acknowledged. Takes no memory.
+    /// True if a payload is in doubt: some crash leaves it, though it was not acknowledged. Takes no memory.
     pub fn doubt(&self) -> bool
         ensures { result ≡ self.now.doubt }
     {
         self.doubt
     }
 
-    /// What the journal's file says of itself. Takes no memory.
+    /// The numbers of the file's header. Takes no memory.
     pub fn header(&self) -> Header
         ensures { result ≡ self.now.header }
     {
         self.header
     }
 
-    /// The place of the record or gate at which the journal stands. Takes no memory.
+    /// The place of the next record or gate. Takes no memory.
     pub fn place(&self) -> u64
         ensures { result ≡ self.now.place }
     {
@@ -208,7 +209,7 @@ impl<D: Disk> Journal<D> {
 }
 
 impl Journal<MemDisk> {
-    /// So many calls of the disk pass, and then each fails. Takes no memory.
+    /// The next `calls` calls of the disk pass, and each later one fails. Takes no memory.
     pub fn stop_after(&mut self, calls: u64)
         ensures { self.new ≡ record self.old {
           disk = record self.old.disk {
@@ -231,7 +232,7 @@ impl Journal<MemDisk> {
     }
 }
 
-// A payload behind its length, and a closed gate.
+// A payload after its length, and then a closed gate.
 fn staged_bytes(alloc: Global, payload: &[u8]) -> Result<Vec<u8>, AllocError>
     requires { IsShort payload.now }
     ensures { IfOk result (λ bytes. bytes.items ≡ body payload.now ++ CLOSED ∷ []) }

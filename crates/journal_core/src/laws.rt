@@ -1,4 +1,4 @@
-//! What bytes open to, as laws of any bytes.
+//! Laws of opening, for any bytes.
 
 ghost use Rattle.std.specs.Prelude.{◌≡◌, ◌++◌, ℕ, List};
 ghost use Rattle.std.specs.List.{AllByRecursion};
@@ -18,7 +18,7 @@ pub fn bytes_open_one_way()
         → Breaks header ps bytes → ¬ IsNoJournal bytes }
 {}
 
-/// What was written opens to it, whatever follows.
+/// A written text opens to its payloads, whatever follows it.
 pub fn a_text_opens()
     ensures { (front : List ℕ) (ps : List (List ℕ)) (rest : List ℕ)
         → AllByRecursion IsShort ps → Opens front ps (text front ps ++ rest) }

@@ -1,7 +1,7 @@
 //! A journal over a disk: payloads, each on the disk before it is acknowledged, whatever a crash leaves. A file of
-//! format 2 has base records in front of them, which are read and never appended to.
-//! `Journal::append` answers `Ok` only where each crash from then on leaves the payload, and at every moment a crash
-//! leaves the payloads from before it, with the new one or without. It stands on the disk model of `disk_edge` alone.
+//! format 2 has base records before them, which are read and never appended to. `Journal::append` answers `Ok` only if
+//! no later crash loses the payload. A crash during the call leaves the payloads from before it, with the new one or
+//! without. The proofs use only the disk model of `disk_edge`.
 #![tactic(auto)]
 
 mod base;

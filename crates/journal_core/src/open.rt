@@ -34,7 +34,7 @@ impl<D: Disk> Journal<D> {
             (λ l. 1 ≤ length l → Stays D.model disk result.0) }
         ensures cause { IsErrOf result.1 CreateFault.Disk → Faulted D.model disk result.0 }
 
-        // Whatever it answers, what is left is what was there, torn in the bytes that are written.
+        // Whatever it answers, the content is the old one, torn in the bytes that are written.
         ensures content { TearsContent 0 9 (D.model.content disk) (D.model.content result.0) }
         ensures images { (c : List ℕ) → D.model.images result.0 c
             → (d : List ℕ) × D.model.images disk d × Torn 0 9 d c }
@@ -48,7 +48,7 @@ impl<D: Disk> Journal<D> {
         (disk, outcome)
     }
 
-    /// Opens a journal of either format at its first base record, or where it has none, at its first record. It syncs
+    /// Opens a journal of either format at its first base record, or at its first record if it has no base. It syncs
     /// first, and writes nothing. Takes no memory.
     pub fn load(alloc: Global, disk: D) -> Result<Journal<D>, (LoadFault, D)>
         ensures ok { IfOk result (λ journal. IfTold (D.model.content disk)
@@ -84,8 +84,8 @@ impl<D: Disk> Journal<D> {
         }
     }
 
-    /// The place and the payload of the base record at which the journal stands, which it passes. `None` where none is
-    /// left: the commits may then be read. After a fault it stands where it stood.
+    /// Passes the next base record, and returns its place and payload. `None` if no base record is left: the commits
+    /// may then be read. After a fault the journal's place is unchanged.
     pub fn next_base(&mut self) -> Result<Option<(u64, Vec<u8>)>, LoadFault>
         requires settled { self.old.doubt ≡ false }
 
@@ -130,8 +130,9 @@ impl<D: Disk> Journal<D> {
         }
     }
 
-    /// The place and the payload of the record at which the journal stands, which it passes. `None` at a gate that is
-    /// not open: the journal may then be appended to. After a fault it stands where it stood.
+    /// Passes the next record, and returns its place and payload. `None` at a gate that is not open: the journal may
+    /// then be appended to. After a fault the journal's place is unchanged. A gate in doubt may be open or not, so the
+    /// doubt has to be settled first.
     pub fn next(&mut self) -> Result<Option<(u64, Vec<u8>)>, LoadFault>
         requires settled { self.old.doubt ≡ false }
         requires based { self.old.left ≡ 0 }
@@ -177,7 +178,7 @@ impl<D: Disk> Journal<D> {
     }
 }
 
-/// Syncs, and gives what a disk says of itself. `None` where it is not open in either format. Takes no memory.
+/// Syncs, and returns the disk's header. `None` if the disk is not open in either format. Takes no memory.
 pub fn peek_header<D: Disk>(disk: &mut D) -> Result<Option<Header>, DiskFail>
     ensures synced { OnOk result
         (IfTold (D.model.content disk.new) (λ l. Exactly l (D.model.images disk.new))) }
@@ -192,7 +193,7 @@ pub fn peek_header<D: Disk>(disk: &mut D) -> Result<Option<Header>, DiskFail>
     }
 }
 
-// Writes the header and a closed gate where the disk is empty, and syncs them.
+// Writes the header and a closed gate if the disk is empty, and syncs them.
 fn write_header<D: Disk>(disk: &mut D) -> Result<(), CreateFault>
     ensures ok { OnOk result (IfTold (D.model.content disk.old)
         (λ l. (l ≡ []) × IsEmptyJournal D.model disk.new)) }
@@ -222,7 +223,7 @@ fn write_header<D: Disk>(disk: &mut D) -> Result<(), CreateFault>
     }
 }
 
-// What a disk that is open says: its length, its header, and the place behind that.
+// The opening of an open disk: its length, its header, and the place after the header.
 #[derive(Clone, Copy)]
 pub(crate) struct Opening {
     pub(crate) len: u64,
@@ -230,7 +231,7 @@ pub(crate) struct Opening {
     pub(crate) place: u64,
 }
 
-// Syncs, and gives what the disk says where it is open.
+// Syncs, and returns the disk's opening. `None` if the disk is not open.
 fn measured<D: Disk>(disk: &mut D) -> Result<Option<Opening>, DiskFail>
     ensures synced { OnOk result
         (IfTold (D.model.content disk.new) (λ l. Exactly l (D.model.images disk.new))) }
@@ -245,7 +246,7 @@ fn measured<D: Disk>(disk: &mut D) -> Result<Option<Opening>, DiskFail>
     said(disk)
 }
 
-// What the disk says where it is open.
+// The disk's opening. `None` if the disk is not open.
 fn said<D: Disk>(disk: &mut D) -> Result<Option<Opening>, DiskFail>
     ensures found { IfOk result (λ found. IfTold (D.model.content disk.old) (IsMeasured found)) }
     ensures place { IfOk result (λ found. IfSome found (λ o. BeginsAt o.header o.place)) }

@@ -11,7 +11,7 @@ use crate::format::LONGEST_PAYLOAD;
 use disk_edge::{Disk, DiskFail};
 use std::alloc::Global;
 
-// How many bytes are read at once, where so many are left.
+// The number of bytes that are read at once, if the disk has them left.
 const PIECE: usize = 65_536;
 
 /// Bytes of a disk from a place on, and the disk's length, once it was asked for.
@@ -47,7 +47,7 @@ impl Window {
         }
     }
 
-    /// Forgets what it knows, since the disk will be written.
+    /// Forgets the bytes and the length, since the disk will be written.
     pub(crate) fn forget(&mut self)
         ensures bytes { self.new.bytes.items ≡ [] }
         ensures len { self.new.len ≡ None }
@@ -92,7 +92,7 @@ impl Window {
         Ok(self.shown(at, 1)[0])
     }
 
-    /// The payload behind its length, which is in the four bytes from a place on. `None` where the length or the payload is
+    /// The payload after its length, which is in the four bytes from `at` on. `None` if the length or the payload is
     /// missing, or too long.
     pub(crate) fn payload_at<D: Disk>(
         &mut self,
@@ -160,7 +160,7 @@ impl Window {
         Ok(self.shown(at, count).to_vec(alloc)?)
     }
 
-    // Reads a piece where the window does not show `count` bytes from `at` on.
+    // Reads a piece if the window does not show `count` bytes from `at` on.
     fn cover<D: Disk>(
         &mut self,
         disk: &mut D,
@@ -191,7 +191,7 @@ impl Window {
         Ok(())
     }
 
-    // Whether it shows `count` bytes from `at` on.
+    // True if it shows `count` bytes from `at` on.
     fn covers(&self, at: u64, count: usize) -> bool
         ensures { result ≡ true → Covers self.now at count }
     {
@@ -210,7 +210,7 @@ impl Window {
     }
 }
 
-// How much to read: a piece, or `wanted` if that is more, but no more than `left`.
+// The number of bytes to read: a piece, or `wanted` if that is more, but no more than `left`.
 fn piece_size(wanted: usize, left: u64) -> usize
     requires few { wanted ≤ 1048576 }
     requires inside { wanted ≤ left }

@@ -1,4 +1,4 @@
--- For callers: what a lookup asks of a text, and what the records of its pages give.
+-- For callers: the texts that a lookup asks for, and its answers from the records of its pages.
 use Rattle.std.specs.Prelude.{◌≡◌, ◌⊎◌, Bool, length, List, [], ◌∷◌, ℕ}
 use Rattle.chem_core.specs.Bits.{HasBit, shared_bits}
 use Rattle.chem_core.specs.Molecule.{Molecule}
@@ -14,14 +14,14 @@ use Rattle.store_machine.specs.declared.machine.Found.{Found}
 abbrev pub IsSameAs : Molecule → Format → List ℕ → Type 0
 IsSameAs m format text = (n : Molecule) × HasMolecule format text n × IsSame m n
 
--- of these records the identifiers of those of whose texts this holds, in order
+-- the identifiers of those of these records whose texts are asked for, in order
 abbrev pub ArePicked : (Format → List ℕ → Type 0) → List Found → List ℕ → Type 0
 ArePicked Asked [] hits = hits ≡ []
 ArePicked Asked (r ∷ rs) hits =
     (Asked r.format r.text × (rest : List ℕ) × (hits ≡ r.id ∷ rest) × ArePicked Asked rs rest)
     ⊎ (¬ Asked r.format r.text × ArePicked Asked rs hits)
 
--- a print and that of the text's structure: so many bits are in both, and so many in at least one
+-- a print and that of the text's structure: c bits are in both, and u in at least one
 pub record IsScored (print : List Bool) (format : Format) (text : List ℕ) (c u : ℕ) : Type 0 where
   pub molecule : Molecule
   pub structure : HasMolecule format text molecule

@@ -10,7 +10,7 @@ use Rattle.store_machine.specs.declared.machine.Event.TheVariants.{Pin, Unpin}
 use Rattle.store_machine.specs.declared.machine.Found.{Found}
 use Rattle.store_machine.specs.declared.machine.Reply.TheVariants.{NoPin, Pinned, Unpinned}
 
--- a pin that was taken in a slot that held none, and fetches of it, from the beginning to a place
+-- a pin that was taken in a slot without one, and fetches of it, from the beginning to a place
 pub record Fetches (held : ℕ → ℕ → Type 0) (size : ℕ) (want : List Bool) (place : Place) : Type 0 where
   pub slot : ℕ
   pub version : ℕ
@@ -30,9 +30,9 @@ lookup_calls slot version pages = (Pin, Pinned slot version) ∷ (pages ++ (Unpi
 abbrev pub HeldBesides : (ℕ → ℕ → Type 0) → ℕ → ℕ → (ℕ → ℕ → Type 0) → Type 0
 HeldBesides old slot version new = (s v : ℕ) → new s v ↔ (old s v ⊎ ((s ≡ slot) × (v ≡ version)))
 
--- A lookup by pages of a size of what is wanted, by its answer. It went to the end, and this is of the records of all
--- pages; it was cut short by want of memory, or asked nothing; no pin was free; or the service was worn, before the
--- pin or after it
+-- A lookup of the wanted bits by pages of a size, by its answer. It went to the end, and this is of the records of all
+-- pages. Or it was cut short by want of memory, or asked nothing. Or no pin was free, or the service was worn, before
+-- the pin or after it
 pub data Looks {S X : Type 0} (of : meaning.Ghosts S) (old new : S) (size : ℕ) (want : List Bool)
     (Is : ℕ → List Found → X → Type 0) : Result X SearchFault → Type 0 where
   Whole : (x : X) (f : Fetches (of.holds old) size want End)
@@ -52,7 +52,7 @@ pub data Looks {S X : Type 0} (of : meaning.Ghosts S) (old new : S) (size : ℕ)
       (held : HeldBesides (of.holds old) f.slot f.version (of.holds new)) (worn : of.worn new)
       → Looks of old new size want Is (Err faults.Worn)
 
--- where it failed with a pin, this holds of the version and the fetches
+-- if it failed with a pin, this holds of the version and the fetches
 abbrev pub FailsBy : {S X : Type 0} {of : meaning.Ghosts S} {old new : S} {size : ℕ} {want : List Bool}
     {Is : ℕ → List Found → X → Type 0} {r : Result X SearchFault} → (ℕ → Calls → Type 0)
     → Looks of old new size want Is r → Type 0
@@ -63,7 +63,7 @@ FailsBy P (NoneFree made held) = Unit {0}
 FailsBy P (WornBefore made held worn) = Unit {0}
 FailsBy P (WornAfter place f made held worn) = P f.version f.pages
 
--- a lookup of which this holds where it failed with a pin
+-- a lookup of which this holds if it failed with a pin
 abbrev pub LooksSo : {S X : Type 0} → (ℕ → Calls → Type 0) → meaning.Ghosts S → S → S → ℕ → List Bool
     → (ℕ → List Found → X → Type 0) → Result X SearchFault → Type 0
 LooksSo P of old new size want Is r = (looks : Looks of old new size want Is r) × FailsBy P looks
@@ -72,7 +72,7 @@ LooksSo P of old new size want Is r = (looks : Looks of old new size want Is r) 
 abbrev pub IsAnew : ℕ → ℕ → Calls → Type 0
 IsAnew known version pages = (pages ≡ []) ⊎ (version ≢ known)
 
--- The same, unless the version that was pinned is the one that is known: then the pin is given back at once
+-- As `Looks`, unless the pinned version is the known one: then the pin is given back at once
 pub data LooksUnless {S X : Type 0} (known : ℕ) (of : meaning.Ghosts S) (old new : S) (size : ℕ) (want : List Bool)
     (Is : ℕ → List Found → X → Type 0) : Result (Option X) SearchFault → Type 0 where
   Known : (f : Fetches (of.holds old) size want (At 0)) (none : f.pages ≡ []) (is : f.version ≡ known)

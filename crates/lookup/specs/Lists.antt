@@ -10,21 +10,21 @@ use Rattle.smarts_parse.specs.Pattern.{PatternTerm}
 use Rattle.store_machine.specs.Answers.{AreMatched}
 use Rattle.store_machine.specs.declared.machine.Found.{Found}
 
--- the version, how many records there were, and which of them are the same structure
+-- the version, the number of records, and those of them that are the same structure
 pub record IsSameList (m : Molecule) (version : ℕ) (records : List Found) (list : HitList) : Type 0 where
   pub version_is : list.version ≡ version
   pub tried : list.tried ≡ length records
   pub hits : ArePicked (IsSameAs m) records list.hits.items
 
--- the version, how many records there were, and which of them the pattern matches, ascending
+-- the version, the number of records, and those of them that the pattern matches, ascending
 pub record IsHitList (pattern : PatternTerm) (version : ℕ) (records : List Found) (list : HitList) : Type 0 where
   pub version_is : list.version ≡ version
   pub tried : list.tried ≡ length records
   pub hits : AreMatched pattern records list.hits.items
   pub ascending : IsStrictlyIncreasing list.hits.items
 
--- The version, how many records there were, and the best of them: at most k that have at least p / q of the bits in
--- common. Records of one identifier, or without a bit, are no offers, and the store has none
+-- The version, the number of records, and the best of them: at most k that have at least p / q of the bits in common.
+-- Records of one identifier, or without a bit, are no offers, and the store has none
 pub record IsSimilarList (p q k : ℕ) (print : List Bool) (version : ℕ) (records : List Found) (list : SimilarList)
     : Type 0 where
   pub version_is : list.version ≡ version

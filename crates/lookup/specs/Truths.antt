@@ -1,4 +1,4 @@
--- For callers: the laws of what a lookup lists. It is what the history has, whatever others did meanwhile.
+-- For callers: the laws of a lookup's list. It is that of the history, whatever others did meanwhile.
 use Rattle.std.specs.Prelude.{◌≡◌, ◌++◌, ℕ, Bool, Contains, List, length, map, Some}
 use Rattle.std.specs.FinMap.{get}
 use Rattle.std.specs.List.Sorted.{IsStrictlyIncreasing}
@@ -23,8 +23,8 @@ use Rattle.store_machine.specs.declared.machine.State.{State}
 use Rattle.store_machine.specs.declared.machine.Status.TheVariants.{Live}
 use Rattle.store_machine.specs.declared.machine.Step.{Step}
 
--- The hits are the identifiers that are the same structure at the list's version of the history, each once, ascending;
--- and so many were tried as have the print in theirs
+-- The hits are the identifiers of the same structure at the list's version of the history, each once, ascending. The
+-- number of tried records is that of the records that have the print in theirs
 pub record AreAllSame (h : History) (m : Molecule) (print : List Bool) (list : HitList) : Type 0 where
   pub are : AreAnswers (IsSameAs m) h list.version list.hits.items
   pub screened : List ℕ
@@ -68,14 +68,15 @@ pub record InRun (s t : State) (size : ℕ) (want : List Bool) (slot version : �
   pub made : calls_of own steps ≡ before ++ (lookup_calls slot version pages ++ after)
   pub fetches : AreFetches slot size want (At 0) pages End
 
--- what is listed as the same by the pages of a structure's print is the same by the history, and all that is
+-- the records that the pages of a structure's print list as the same are exactly those of the history
 abbrev pub SamesAreAnswers : Type 0
 SamesAreAnswers =
     (s t : State) (size slot version : ℕ) (pages : Calls) (m : Molecule) (print : List Bool) (list : HitList)
     → InRun s t size print slot version pages → IsMolecule m → IsPrintOf m print
     → IsSameList m version (records_of (fetched slot pages)) list → AreAllSame t.history m print list
 
--- what is listed as most similar to the structure of a SMILES, by the pages of an empty print, is so by the history
+-- the records listed as most similar to the structure of a SMILES, by the pages of an empty print, are so by the
+-- history
 abbrev pub SimilarsAreAnswers : Type 0
 SimilarsAreAnswers =
     (s t : State) (size slot version p q k : ℕ) (pages : Calls) (want : List Bool)

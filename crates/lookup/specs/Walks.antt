@@ -1,4 +1,5 @@
--- For private clauses alone: the fetches of a lookup under way, and what a visitor keeps of the records that it saw.
+-- For private clauses alone: the fetches of a lookup under way, and the facts that a visitor keeps of the records it
+-- saw.
 use Rattle.std.specs.Prelude.{◌≡◌, ◌++◌, [], Bool, List, Result, Ok, Err, ℕ}
 use Rattle.chem_core.specs.Molecule.{IsMolecule, Molecule}
 use Rattle.exact_find.specs.Key.{IsKey}
@@ -39,12 +40,12 @@ Walks of old new slot size want Is (Err call.NoMemory) = (place : Place) × Walk
 Walks of old new slot size want Is (Err call.Worn) =
     (place : Place) × Walked of old new slot size want place × of.worn new
 
--- from one visitor to a later one these records were seen, behind any others
+-- from one visitor to a later one these records were seen, after any others
 abbrev pub Saw : {V G : Type 0} → (V → G → V → List Found → Type 0) → G → V → V → List Found → Type 0
 Saw {V} has_seen given old new records = (start : V) (before : List Found) → has_seen start given old before
     → has_seen start given new (before ++ records)
 
--- of some records those that are the same as a molecule, whose key this is
+-- those of these records that are the same as a molecule, whose key this is
 pub record HasPicked (m : Molecule) (key : Key) (records : List Found) (hits : List ℕ) : Type 0 where
   pub molecule : IsMolecule m
   pub key_is : IsKey m key

@@ -19,8 +19,8 @@ use smarts_parse::Pattern;
 use std::alloc::{AllocError, Global};
 use store_core::{Record, Service};
 
-/// Identifiers that were looked for, ascending, at a version, and how many had to be looked at: those whose print holds
-/// what was needed.
+/// The identifiers of the hits, ascending, at a version, and the number of records that were looked at: those whose
+/// print has the needed bits.
 #[derive(Debug, Drop)]
 pub struct HitList {
     pub version: u32,
@@ -28,8 +28,8 @@ pub struct HitList {
     pub hits: Vec<u32>,
 }
 
-/// Lists the hits of a pattern, by pages of 1 to 256 records: a pin, fetches of all whose print holds what the pattern
-/// needs, and the pin is given back. On want of memory it is given back too.
+/// Lists the hits of a pattern, by pages of 1 to 256 records. It pins the head, and fetches all records whose print has
+/// the bits that the pattern needs. Then it gives the pin back, on want of memory too.
 pub fn find_hits<S: Service>(
     alloc: Global,
     service: &mut S,
@@ -49,8 +49,7 @@ pub fn find_hits<S: Service>(
     list_of(seen, matches)
 }
 
-/// The same, unless the version that is pinned is the one that is known: then the pin is given back at once, and there
-/// is no list.
+/// As `find_hits`, unless the pinned version is `known`: then the pin is given back at once, and there is no list.
 pub fn find_newer_hits<S: Service>(
     alloc: Global,
     service: &mut S,
@@ -122,7 +121,8 @@ impl Visit<Pattern> for Matches {
     }
 }
 
-// The list of what was seen. The pages of a store ascend. Of a service whose pages do not, no list is given.
+// The list of the records that were seen. The pages of a store ascend. For a service whose pages do not, no list is
+// given.
 fn list_of(seen: Seen, matches: Matches) -> Result<HitList, SearchFault>
     ensures list { IfOk result (λ list. list
         ≡ record { version = seen.version; tried = seen.count; hits = matches.hits }) }
@@ -139,7 +139,7 @@ fn list_of(seen: Seen, matches: Matches) -> Result<HitList, SearchFault>
     })
 }
 
-// Whether each identifier is below the next.
+// True if each identifier is below the next.
 fn is_ascending(ids: &[u32]) -> bool
     ensures { IsTrue result ↔ IsStrictlyIncreasing ids.now }
 {

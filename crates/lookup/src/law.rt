@@ -1,4 +1,4 @@
-//! The laws: what structures have in common with those that are the same, and that lookups list what the history has.
+//! The laws of equal structures, and of the lists of lookups, which are exactly those of the history.
 ghost use Rattle.std.specs.Prelude.{◌≤◌, ◌↔◌, Bool, List, ℕ};
 ghost use Rattle.chem_core.specs.Bits.{set_bits};
 ghost use Rattle.chem_core.specs.Molecule.{IsMolecule, Molecule};
@@ -26,7 +26,7 @@ pub fn structures_have_bits()
         → 1 ≤ set_bits print }
 {}
 
-/// A law: what is listed as the same structure is so by the history, and all that is.
+/// A law: the records that are listed as the same structure are exactly those of the history.
 pub fn sames_are_answers()
     ensures { SamesAreAnswers }
 {
@@ -37,7 +37,7 @@ pub fn sames_are_answers()
     same_have_equal_prints();
 }
 
-/// A law: what is listed as most similar is so by the history.
+/// A law: the records that are listed as most similar are so by the history.
 pub fn similars_are_answers()
     ensures { SimilarsAreAnswers }
 {

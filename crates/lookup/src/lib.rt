@@ -1,8 +1,8 @@
-//! Lookups over a service: what is the same structure as a given one, what is most similar to it, and what a pattern
-//! matches, at one pinned version.
+//! Lookups over a service, at one pinned version: the records of the same structure as a given one, the most similar
+//! ones, and the hits of a pattern.
 //!
-//! A lookup takes its memory, pins the head, fetches page after page and gives the pin back. That what it lists is what
-//! the history has at its version is a law of the machine.
+//! A lookup takes its memory, pins the head, fetches page after page and gives the pin back. A law of the machine says
+//! that it lists exactly the answers of the history at its version.
 #![tactic(auto)]
 
 mod hits;

@@ -1,4 +1,4 @@
-//! The pages of one pin, each record of which is shown to a visitor.
+//! The pages of one pin. Each of their records is shown to a visitor.
 ghost use Rattle.std.specs.Prelude.{◌≡◌, ◌≢◌, ◌≤◌, ◌∷◌, [], List, OnOk, length};
 ghost use Rattle.store_core.specs.Calls.{NotRaised};
 ghost use Rattle.store_core.specs.Records.{found_of, founds};
@@ -15,12 +15,12 @@ use std::alloc::{AllocError, Global};
 use std::sync::Arc;
 use store_core::{CallFault, MOST_COMMITS, Page, Record, Service};
 
-/// What looks at records, one after another, beside a given record or pattern.
+/// A visitor, which looks at records, one after another, beside a given record or pattern.
 pub trait Visit<G> {
-    /// What it may be given.
+    /// The values that it may be given.
     ghost may_be: { G → Type 0 };
 
-    /// What it is once it has seen these, where it was the first of the two.
+    /// The visitor after it has seen these, if it began as the first of the two.
     ghost has_seen: { Self → G → Self → List Found → Type 0 };
 
     /// Looks at one record more.
@@ -29,15 +29,15 @@ pub trait Visit<G> {
         ensures { OnOk result (Saw has_seen given.now self.old self.new (found_of other.now ∷ [])) };
 }
 
-/// The version that was pinned, and how many records there were.
+/// The version that was pinned, and the number of records.
 #[derive(Clone, Copy, Debug, PartialEq, Eq)]
 pub struct Seen {
     pub version: u32,
     pub count: u32,
 }
 
-/// Shows a visitor all records of the head whose print holds what is wanted, ascending, by pages of a size: a pin,
-/// fetches, and the pin is given back. The page's memory is taken first.
+/// Shows a visitor all records of the head whose print has the wanted bits, ascending, by pages of a size. The calls
+/// are a pin, fetches, and an unpin. The page's memory is taken first.
 pub fn see_head<S: Service, G, V: Visit<G>>(
     alloc: Global,
     service: &mut S,
@@ -61,8 +61,8 @@ pub fn see_head<S: Service, G, V: Visit<G>>(
     see_pinned(service, pin, given, want, size, &mut page, visitor)
 }
 
-/// The same, unless the version that is pinned is the one that is known: then the pin is given back at once, and there
-/// is nothing to show.
+/// As `see_head`, unless the pinned version is `known`: then the pin is given back at once, and there is nothing to
+/// show.
 pub fn see_newer<S: Service, G, V: Visit<G>>(
     alloc: Global,
     service: &mut S,
@@ -121,7 +121,7 @@ fn see_pinned<S: Service, G, V: Visit<G>>(
     Ok(Seen { version, count })
 }
 
-// Shows the records of all pages, and answers how many there were. A store has no more pages than commits.
+// Shows the records of all pages, and returns their number. A store has no more pages than commits.
 fn see_pages<S: Service, G, V: Visit<G>>(
     service: &mut S,
     pin: &Pin,
@@ -170,7 +170,7 @@ fn see_all<G, V: Visit<G>>(
     Ok(())
 }
 
-// Where a page that was fetched from an identifier on ends.
+// The end of a page that was fetched from an identifier on.
 fn behind(from: u32, records: &[Arc<Record>]) -> u32
     ensures { result ≡ past from (founds records.now) }
 {

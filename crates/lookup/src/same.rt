@@ -14,8 +14,8 @@ use par_search::SearchFault;
 use std::alloc::{AllocError, Global};
 use store_core::{Record, Service};
 
-/// Lists what is the same structure as that of a record, by pages of 1 to 256 records: a pin, fetches of all whose
-/// print holds the record's, and the pin is given back. On want of memory it is given back too.
+/// Lists the records of the same structure as a given record, by pages of 1 to 256 records. It pins the head, and
+/// fetches all records whose print has the bits of the record's. Then it gives the pin back, on want of memory too.
 pub fn find_same<S: Service>(
     alloc: Global,
     service: &mut S,
@@ -63,7 +63,7 @@ impl Sames {
         })
     }
 
-    // Whether another record is the same as the given one. Counts of atoms and bonds are compared first, then keys.
+    // True if another record is the same as the given one. Counts of atoms and bonds are compared first, then keys.
     fn is_same(&mut self, given: &Record, other: &Record) -> bool
         ensures is { IsMolecule given.now.mol → IsKey given.now.mol self.old.key
             → (IsTrue result ↔ IsSame given.now.mol other.now.mol) }
@@ -97,7 +97,7 @@ impl Visit<Record> for Sames {
     }
 }
 
-// Whether a molecule has as many atoms and bonds as a key says.
+// True if a molecule has the numbers of atoms and bonds of a key.
 fn has_counts(key: &Key, mol: &Mol) -> bool
     ensures { IsTrue result ↔ (key.now.atoms ≡ length mol.now.atoms) × (key.now.bonds ≡ length mol.now.bonds) }
 {

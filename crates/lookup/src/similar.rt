@@ -14,8 +14,8 @@ use similar_find::{Best, most_alike, score};
 use std::alloc::{AllocError, Global};
 use store_core::{Record, Service};
 
-/// Which similar structures are asked for: at most `k`, 1 to 256, that have at least `p / q` of the bits in common, `q`
-/// 1 to 1000 and `p` at most `q`.
+/// A request for similar structures: at most `k`, 1 to 256, that have at least `p / q` of the bits in common. `q` is 1
+/// to 1000 and `p` at most `q`.
 #[derive(Clone, Copy, Debug, PartialEq, Eq)]
 pub struct Similarity {
     pub p: u32,
@@ -23,8 +23,8 @@ pub struct Similarity {
     pub k: u32,
 }
 
-/// The identifiers that are most similar to a given structure, the best first, at a version, and how many were
-/// compared: all that are live.
+/// The identifiers that are most similar to a given structure, the best first, at a version, and the number of records
+/// that were compared: all that are live.
 #[derive(Debug, Drop)]
 pub struct SimilarList {
     pub version: u32,
@@ -32,8 +32,8 @@ pub struct SimilarList {
     pub best: Best,
 }
 
-/// Lists what is most similar to the structure of a record, by pages of 1 to 256 records: a pin, fetches of all that is
-/// live, and the pin is given back. On want of memory it is given back too.
+/// Lists the records that are most similar to the structure of a record, by pages of 1 to 256 records. It pins the
+/// head, fetches all live records, and gives the pin back, on want of memory too.
 pub fn find_similar<S: Service>(
     alloc: Global,
     service: &mut S,
@@ -92,13 +92,13 @@ impl Visit<Record> for Likes {
     }
 }
 
-// How many bits the prints of two records have in common, and how many are in at least one.
+// The number of bits that the prints of two records have in common, and of those in at least one.
 fn counts(given: &Record, other: &Record) -> (u32, u32)
     ensures scored { IsScored given.now.print other.now.format other.now.text result.0 result.1 }
     ensures part { result.0 ≤ result.1 }
     ensures few { result.1 ≤ 1024 }
 {
-    // Its clause tells that the record is sound.
+    // Its clause says that the record is sound.
     let _ = other.id();
     score(given.print(), given.bits(), other.print(), other.bits())
 }

@@ -1,4 +1,4 @@
--- For private clauses alone: at which atoms each place of a graph may stand, as bits of words.
+-- For private clauses alone: the atoms to which each place of a graph may be mapped, as bits of words.
 use Rattle.std.specs.Prelude.{◌≡◌, ◌↔◌, ℕ, ◌+◌, ◌*◌, ◌/◌, ◌%◌, ◌<◌, List, length, slice_get, slice_index, Some}
 use Rattle.std.specs.Int.{bit_at}
 use Rattle.chem_core.specs.Molecule.{Molecule}
@@ -21,7 +21,7 @@ IsTrueIn parts g m place atom = (e : Term AtomPrim) → slice_get g.atoms place 
 abbrev pub IsTrueAt : Task → ℕ → ℕ → Type 0
 IsTrueAt task = IsTrueIn (HoldsIn task.table.now) (graph_of task.graph.now) task.mol.now
 
--- the word has those atoms of a second one, for a block, at which the expression is true
+-- the word has those atoms of the word `within`, for a block, at which the expression is true
 abbrev pub IsTruth : Parts → Molecule → Term AtomPrim → ℕ → ℕ → ℕ → Type 0
 IsTruth parts m e block within word = (i : ℕ) → i < 64
     → bit_at word i ≡ 1 ↔ ((bit_at within i ≡ 1) × AtomTrue parts e m (64 * block + i))

@@ -8,13 +8,13 @@ use Rattle.smarts_parse.specs.declared.pattern.AtomPrim.TheVariants as atoms
 use Rattle.smarts_parse.specs.Pattern.{Term, Prim, Not, And, Or}
 use Rattle.matcher.specs.declared.plan.EarlierBonds.{EarlierBonds}
 
--- a primitive that is true at no atom of another class
+-- the primitive may be true at an atom of class c, as far as the class shows
 abbrev pub PrimMayBe : AtomPrim → ℕ → Type 0
 PrimMayBe (atoms.Symbol number lower) c = c ≡ class_at number lower
 PrimMayBe (atoms.Number number) c = (c ≡ class_at number false) ⊎ (c ≡ class_at number true)
 PrimMayBe _ c = Unit {0}
 
--- an expression that is true at no atom of another class
+-- the expression may be true at an atom of class c, as far as the class shows
 abbrev pub MayBe : Term AtomPrim → ℕ → Type 0
 MayBe (Prim p) c = PrimMayBe p c
 MayBe (Not e) c = Unit {0}

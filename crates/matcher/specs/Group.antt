@@ -1,22 +1,23 @@
--- For private clauses alone: groups of places, each in one component of the molecule, different ones in different ones.
+-- For private clauses alone: groups of places, each in one component of the molecule, different groups in different
+-- ones.
 use Rattle.std.specs.Prelude.{◌≡◌, ◌≢◌, ◌↔◌, ℕ, ◌<◌, ◌==◌, Bool, true, false, List, count_by, length, slice_index, slice_index_or}
 use Rattle.chem_core.specs.Component.{IsComponent, Reaches}
 use Rattle.chem_core.specs.Molecule.{Molecule, ends_of}
 use Rattle.matcher.specs.declared.task.Task.{Task}
 use Rattle.matcher.specs.Task.{Embeds}
 
--- the group of a place, 0 for none
+-- the group of a place, 0 if it has none
 abbrev pub group_at : Task → ℕ → ℕ
 group_at task place = slice_index task.graph.now.groups.items place
 
--- A place of a group keeps to groups at an atom: one that is taken, if it is of a group, is of the same group exactly
--- where it stands in the atom's component.
+-- A place of a group keeps to groups at an atom. A taken place of a group is of this group exactly if its atom is in
+-- the atom's component.
 abbrev pub KeepsGroup : Task → List ℕ → ℕ → ℕ → Type 0
 KeepsGroup task taken group atom = (q : ℕ) → q < length taken → slice_index taken q < length task.mol.now.atoms
     → group_at task q ≢ 0
     → (group_at task q ≡ group) ↔ Reaches (ends_of task.mol.now) (slice_index taken q) atom
 
--- the same of any place
+-- as `KeepsGroup`, of any place
 abbrev pub KeepsGroups : Task → List ℕ → ℕ → ℕ → Type 0
 KeepsGroups task taken place atom = group_at task place ≢ 0 → KeepsGroup task taken (group_at task place) atom
 
@@ -33,7 +34,7 @@ IsNowhere task place atom = (image : List ℕ) → Embeds task image → slice_i
 abbrev pub is_of_group : ℕ → ℕ → Bool
 is_of_group group other = other == group
 
--- fewer atoms than that are in the component of the atom: those that are marked, and maybe others
+-- the component of the atom has fewer than `count` atoms: the marked atoms are fewer, and have all of it
 pub record HasFew (m : Molecule) (atom count : ℕ) : Type 0 where
   pub marks : List Bool
   pub all : (a : ℕ) → a < length m.atoms → Reaches (ends_of m) atom a → slice_index_or marks a false ≡ true

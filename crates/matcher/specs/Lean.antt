@@ -1,4 +1,4 @@
--- For private clauses alone: a word with the atoms that are taken, of at most 64.
+-- For private clauses alone: a word with the taken atoms, of at most 64.
 use Rattle.std.specs.Prelude.{◌≡◌, ◌↔◌, ℕ, ◌<◌, List, Contains}
 use Rattle.std.specs.Int.{bit_at}
 

@@ -1,4 +1,4 @@
--- For private clauses alone: how the bonds of a graph narrow the atoms, of at most 64, at which its places may stand.
+-- For private clauses alone: how the bonds of a graph narrow the candidates of its places, of at most 64 atoms.
 use Rattle.std.specs.Prelude.{◌≡◌, ◌≢◌, ℕ, ◌+◌, ◌<◌, ◌≤◌, List, length, Bool, All, AllPairs, bit_and, bit_or, count_ones, slice_index, slice_index_or, IsTrue}
 use Rattle.std.specs.Int.{bit_at}
 use Rattle.chem_core.specs.Graph.{IsRingBond, JoinsAt}
@@ -18,13 +18,13 @@ use Rattle.matcher.specs.Wanted.{IsWithin}
 abbrev pub AreNear : Molecule → List ℕ → Type 0
 AreNear m near = (b x y : ℕ) → JoinsAt (ends_of m) b x y → bit_at (slice_index near x) y ≡ 1
 
--- and its neighbours by ring bonds
+-- the word of each atom has its neighbours by ring bonds
 abbrev pub AreRingNear : Molecule → List ℕ → Type 0
 AreRingNear m near = (b x y : ℕ) → JoinsAt (ends_of m) b x y → IsRingBond (ends_of m) b
     → bit_at (slice_index near x) y ≡ 1
 
--- what was noted is so: the bonds of the graph that are marked lie on rings, all neighbours are near, if a bond is open,
--- and those by ring bonds, if one is on a ring
+-- The notes are right: the marked bonds of the graph lie on rings. All neighbours are near if a bond is open, and those
+-- by ring bonds if one is on a ring.
 pub record IsNoted (task : Task) (closing : Closing) (all ring : List ℕ) : Type 0 where
   pub marks : AreRingMarks (graph_of task.graph.now) closing.on_ring.items
   pub near : IsTrue closing.has_open → AreNear task.mol.now all
@@ -36,8 +36,8 @@ IsReach task marks near = (image : List ℕ) → Embeds task image → (j x y : 
     → JoinsAt (pattern_ends (graph_of task.graph.now)) j x y
     → bit_at (slice_index near (slice_index image x)) (slice_index image y) ≡ 1
 
--- to as many places, all different, a marked bond of the first k leads from a place, and their candidates are among the
--- atoms
+-- There are `number` different places to which marked bonds among the first k lead from a place, and their candidates
+-- are among the atoms.
 pub record AreAround (g : GraphTerm) (marks : List Bool) (words : List ℕ) (place k atoms number : ℕ) : Type 0 where
   pub places : List ℕ
   pub size : length places ≡ number
@@ -45,26 +45,27 @@ pub record AreAround (g : GraphTerm) (marks : List Bool) (words : List ℕ) (pla
   pub bonded : All (λ q. (j : ℕ) × (j < k) × IsMarked marks j × JoinsAt (pattern_ends g) j place q) places
   pub within : All (λ q. IsWithin (slice_index words q) atoms) places
 
--- what is around a place of the list
+-- the number and the atoms around a place of the list
 abbrev pub around_at : List Around → ℕ → Around
 around_at arounds place = slice_index_or arounds place (record { count = 0; atoms = 0 })
 
--- the new word has those atoms of the old one that have as many of the others near them, and no others
+-- the new word has the atoms of the old one with at least `count` of the others near them, and only atoms of the old
+-- one
 pub record IsNarrowed (near : List ℕ) (from count atoms kept : ℕ) : Type 0 where
   pub enough : (a : ℕ) → a < 64 → bit_at from a ≡ 1 → count ≤ count_ones (bit_and (slice_index near a) atoms)
       → bit_at kept a ≡ 1
   pub within : (a : ℕ) → bit_at kept a ≡ 1 → bit_at from a ≡ 1
 
--- the same with one place more, of which the word has the candidates
+-- `around` with one place more, whose candidates the word has
 abbrev pub more_around : Around → ℕ → Around
 more_around around word = record { count = around.count + 1; atoms = bit_or around.atoms word }
 
--- each embedding has as many of the atoms near that of the place
+-- each embedding maps the place to an atom with at least `around.count` of the atoms near it
 abbrev pub HasAround : Task → List ℕ → ℕ → Around → Type 0
 HasAround task near place around = (image : List ℕ) → Embeds task image
     → around.count ≤ count_ones (bit_and (slice_index near (slice_index image place)) around.atoms)
 
--- what is promised of a pass that refuses
+-- P holds if the pass refuses
 abbrev pub IfRefused : Pass → Type 0 → Type 0
 IfRefused Refused P = P
 IfRefused Changed P = Unit {0}

@@ -1,4 +1,4 @@
--- For private clauses alone: what is kept while the atoms of a graph are placed in turn.
+-- For private clauses alone: the invariant while the atoms of a graph are placed in turn.
 use Rattle.std.specs.Prelude.{◌≡◌, ◌≢◌, ℕ, ◌<◌, ◌≤◌, List, ◌++◌, length, max, slice_get, slice_index, Some, All, AllPairs}
 use Rattle.chem_core.specs.Graph.{JoinsAt}
 use Rattle.chem_core.specs.Molecule.{Molecule}
@@ -9,11 +9,11 @@ use Rattle.smarts_parse.specs.Truth.{AtomTrue}
 use Rattle.smarts_parse.specs.Embedding.{AreGrouped, BondEmbeds, IsEmbedding}
 use Rattle.matcher.specs.Least.{Precedes}
 
--- where recursive parts hold: number, atom
+-- the parts that hold: number, atom
 abbrev pub Parts : Type 1
 Parts = ℕ → ℕ → Type 0
 
--- what a graph keeps that is searched for
+-- the invariant of a graph that is searched for
 pub record IsSearchable (g : GraphTerm) : Type 0 where
   pub few : length g.atoms ≤ 256
   pub ends : All (λ e. (e.0 < length g.atoms) × (e.1 < length g.atoms)) (pattern_ends g)
@@ -32,7 +32,7 @@ pub record IsPartial (parts : Parts) (g : GraphTerm) (m : Molecule) (image : Lis
   pub bonds : All (λ bond. max bond.a bond.b < length image → BondEmbeds m image bond) g.bonds
   pub groups : AreGrouped g.groups m image
 
--- some embedding begins so
+-- an embedding begins so
 abbrev pub CanComplete : Parts → GraphTerm → Molecule → List ℕ → Type 0
 CanComplete parts g m front = (rest : List ℕ) × IsEmbedding parts g m (front ++ rest)
 

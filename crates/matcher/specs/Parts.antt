@@ -1,4 +1,4 @@
--- For private clauses alone: recursive parts, and a table that says where those of smaller numbers hold.
+-- For private clauses alone: recursive parts, and a table with the atoms at which those of smaller numbers hold.
 use Rattle.std.specs.Prelude.{◌≡◌, ℕ, ◌+◌, ◌*◌, ◌<◌, ◌≤◌, ◌↔◌, List, [], ◌∷◌, length, slice_get, slice_index, Some}
 use Rattle.std.specs.Int.{bit_at}
 use Rattle.chem_core.specs.declared.mol.Atom.{Atom}
@@ -10,7 +10,7 @@ use Rattle.smarts_parse.specs.Pattern.{GraphTerm}
 use Rattle.smarts_parse.specs.Sound.{IsSoundGraph}
 use Rattle.matcher.specs.Partial.{CanComplete, Parts}
 
--- what the recursive parts of a pattern keep
+-- the invariant of the recursive parts of a pattern
 pub record AreSoundParts (recs : List GraphTerm) : Type 0 where
   pub each : (j : ℕ) (g : GraphTerm) → slice_get recs j ≡ Some g → IsSoundGraph j g
   pub few_atoms : (j : ℕ) (g : GraphTerm) → slice_get recs j ≡ Some g → length g.atoms ≤ 256
@@ -21,11 +21,11 @@ abbrev pub HoldAlike : List ℕ → Molecule → ℕ → Parts → Parts → Typ
 HoldAlike wanted m n P Q = (k a : ℕ) (x : Atom) → k < n → slice_get m.atoms a ≡ Some x
     → bit_at (slice_index wanted k) (class_of x) ≡ 1 → P k a ↔ Q k a
 
--- the table says at which of the atoms where it is asked each part of a number below n holds
+-- for each part of a number below n, the table has the atoms at which it holds, among those at which it is asked
 abbrev pub AreNoted : List GraphTerm → Molecule → List ℕ → ℕ → Table → Type 0
 AreNoted recs m wanted n table = HoldAlike wanted m n (HoldsIn table) (PartsHold recs m n)
 
--- the word has those atoms of a block, of the classes, at which some embedding of the graph begins
+-- the word has those atoms of a block, of the classes, at which an embedding of the graph begins
 abbrev pub AreBeginnings : Parts → GraphTerm → Molecule → ℕ → ℕ → ℕ → Type 0
 AreBeginnings parts g m classes block word = (i : ℕ) (x : Atom) → i < 64 → slice_get m.atoms (64 * block + i) ≡ Some x
     → bit_at classes (class_of x) ≡ 1 → bit_at word i ≡ 1 ↔ CanComplete parts g m ((64 * block + i) ∷ [])

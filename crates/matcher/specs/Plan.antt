@@ -1,5 +1,5 @@
--- For private clauses alone: where each atom's bonds to earlier atoms stand among the bonds of a graph, and what else
--- is known of the atom.
+-- For private clauses alone: the range of each atom's bonds to earlier atoms among the bonds of a graph, and other
+-- facts about the atom.
 use Rattle.std.specs.Prelude.{◌≡◌, ◌⊎◌, ℕ, ◌+◌, ◌-◌, ◌<◌, ◌≤◌, List, drop, false, length, max, slice_get, slice_index, slice_index_or, take, true, Some}
 use Rattle.smarts_parse.specs.declared.pattern.AtomPrim.{AtomPrim}
 use Rattle.smarts_parse.specs.Pattern.{BondTerm, GraphTerm, Term}
@@ -11,8 +11,8 @@ use Rattle.matcher.specs.Partial.{IsSearchable}
 abbrev pub step_at : List EarlierBonds → ℕ → EarlierBonds
 step_at steps k = slice_index_or steps k (record { from = 0; to = 0; classes = 0; again = false })
 
--- Each of the first n bonds stands in the step of its higher end, and a step that is not empty begins with a bond whose
--- higher end is its atom.
+-- Each of the first n bonds is in the step of its higher end. A step that is not empty begins with a bond whose higher
+-- end is its atom.
 pub record ArePlanned (bonds : List BondTerm) (n atoms : ℕ) (steps : List EarlierBonds) : Type 0 where
   pub room : atoms ≤ length steps
   pub within : (k : ℕ) (d : BondTerm) → k < n → let bond = slice_index_or bonds k d
@@ -22,7 +22,7 @@ pub record ArePlanned (bonds : List BondTerm) (n atoms : ℕ) (steps : List Earl
   pub first : (k : ℕ) (d : BondTerm) → k < atoms → (step_at steps k).from < (step_at steps k).to
       → let bond = slice_index_or bonds (step_at steps k).from d in max bond.a bond.b ≡ k
 
--- each step has the classes of the atoms at which its atom may stand
+-- each step has the classes of the atoms to which its atom may be mapped
 abbrev pub AreCovered : List (Term AtomPrim) → ℕ → List EarlierBonds → Type 0
 AreCovered atoms n steps = (k : ℕ) → k < n → (d : Term AtomPrim)
     → Covers (step_at steps k).classes (slice_index_or atoms k d)
@@ -31,7 +31,7 @@ AreCovered atoms n steps = (k : ℕ) → k < n → (d : Term AtomPrim)
 abbrev pub IsRepeat : List (Term AtomPrim) → ℕ → Type 0
 IsRepeat atoms k = (0 < k) × ((d : Term AtomPrim) → slice_index_or atoms (k - 1) d ≡ slice_index_or atoms k d)
 
--- so it is wherever a step says it
+-- each step that says so is such a repeat
 abbrev pub AreRepeats : List (Term AtomPrim) → ℕ → List EarlierBonds → Type 0
 AreRepeats atoms n steps = (k : ℕ) → k < n → (step_at steps k).again ≡ true → IsRepeat atoms k
 
@@ -42,12 +42,12 @@ pub record IsReady (g : GraphTerm) (steps : List EarlierBonds) : Type 0 where
   pub covered : AreCovered g.atoms (length g.atoms) steps
   pub repeats : AreRepeats g.atoms (length g.atoms) steps
 
--- the steps of a graph stand among others, from a place on
+-- the steps of a graph are among others, from a place on
 pub record StandsAt (g : GraphTerm) (steps : List EarlierBonds) (begin : ℕ) : Type 0 where
   pub fits : begin + length g.atoms ≤ length steps
   pub ready : IsReady g (take (length g.atoms) (drop begin steps))
 
--- and those of each of the first n recursive parts, where it begins
+-- as `StandsAt`, of each of the first n recursive parts, at its place
 abbrev pub ArePartsPlanned : List GraphTerm → ℕ → List EarlierBonds → List ℕ → Type 0
 ArePartsPlanned recs n steps begins = (k : ℕ) (g : GraphTerm) → k < n → slice_get recs k ≡ Some g
     → StandsAt g steps (slice_index begins k)

@@ -1,4 +1,4 @@
--- What is prepared for a pattern. For callers `IsPreparedFor`, of the scratch; the others for private clauses alone.
+-- The data prepared for a pattern. For callers `IsPreparedFor`, of the scratch; the others for private clauses alone.
 use Rattle.std.specs.Prelude.{◌≡◌, ℕ, ◌+◌, ◌≤◌, Bool, List, [], ◌∷◌, length, slice_get, Some, IfSome}
 use Rattle.smarts_parse.specs.declared.pattern.AtomPrim.TheVariants.{Rec}
 use Rattle.smarts_parse.specs.Pattern.{GraphTerm, PatternTerm, Prim}
@@ -24,7 +24,7 @@ IsOnlyPart p part = (part + 1 ≡ length p.recs) × (p.top.atoms ≡ Prim (Rec p
 abbrev pub ArePartMarks : PatternTerm → List Bool → ℕ → Type 0
 ArePartMarks p marks part = (g : GraphTerm) → slice_get p.recs part ≡ Some g → AreRingMarks g marks
 
--- what was worked out is of the pattern
+-- the data worked out are of the pattern
 pub record IsPrepared (p : PatternTerm) (prepared : Prepared) : Type 0 where
   pub asked : AreAsked p prepared.asked
   pub planned : IsPlanned p prepared.plans

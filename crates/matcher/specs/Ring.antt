@@ -22,15 +22,15 @@ IsOnRing task j = (image : List ℕ) → Embeds task image → (x y b : ℕ)
     → JoinsAt (pattern_ends (graph_of task.graph.now)) j x y
     → JoinsAt (ends_of task.mol.now) b (slice_index image x) (slice_index image y) → IsRingBond (ends_of task.mol.now) b
 
--- and each bond that is marked
+-- as `IsOnRing`, of each marked bond
 abbrev pub AreOnRings : Task → List Bool → Type 0
 AreOnRings task marks = (j : ℕ) → IsMarked marks j → IsOnRing task j
 
--- and in every search for the graph
+-- as `AreOnRings`, in every search for the graph
 abbrev pub AreRingMarks : GraphTerm → List Bool → Type 0
 AreRingMarks g marks = (task : Task) → graph_of task.graph.now ≡ g → AreOnRings task marks
 
--- the bonds that were marked lie along a way down, which with those above it has two bonds at least
+-- the bonds that were marked lie on a way down; with `above` it has at least two bonds
 pub record IsMarkedWay (g : GraphTerm) (from to above : ℕ) (old new : List Bool) : Type 0 where
   pub places : List ℕ
   pub way : IsWay g from to places

@@ -1,4 +1,4 @@
--- For private clauses alone: what is known of a graph that is placed in a molecule.
+-- For private clauses alone: facts about a graph that is placed in a molecule.
 use Rattle.std.specs.Prelude.{ℕ, ◌<◌, List, [], ◌∷◌, ◌++◌, slice_index_or}
 use Rattle.smarts_mean.specs.Table.{HoldsIn}
 use Rattle.smarts_parse.specs.Embedding.{BondEmbeds, IsEmbedding}
@@ -11,7 +11,7 @@ use Rattle.matcher.specs.Plan.{IsReady, step_at}
 abbrev pub IsReadyTask : Task → Type 0
 IsReadyTask task = IsReady (graph_of task.graph.now) task.steps.now
 
--- the atoms in front stand where the graph's first may
+-- the atoms of `front` are a mapping of the graph's first places
 abbrev pub IsPlaced : Task → List ℕ → Type 0
 IsPlaced task front = IsPartial (HoldsIn task.table.now) (graph_of task.graph.now) task.mol.now front
 
@@ -19,7 +19,7 @@ IsPlaced task front = IsPartial (HoldsIn task.table.now) (graph_of task.graph.no
 abbrev pub Embeds : Task → List ℕ → Type 0
 Embeds task image = IsEmbedding (HoldsIn task.table.now) (graph_of task.graph.now) task.mol.now image
 
--- some embedding begins so
+-- an embedding begins so
 abbrev pub Completes : Task → List ℕ → Type 0
 Completes task front = CanComplete (HoldsIn task.table.now) (graph_of task.graph.now) task.mol.now front
 
@@ -27,7 +27,7 @@ Completes task front = CanComplete (HoldsIn task.table.now) (graph_of task.graph
 abbrev pub IsLeastPlaced : Task → List ℕ → List ℕ → Type 0
 IsLeastPlaced task front whole = IsLeastFrom (HoldsIn task.table.now) (graph_of task.graph.now) task.mol.now front whole
 
--- the bonds of the atom at a place to earlier ones are some
+-- the atom at a place has a bond to an earlier one
 abbrev pub IsBonded : Task → ℕ → Type 0
 IsBonded task place = (step_at task.steps.now place).from < (step_at task.steps.now place).to
 

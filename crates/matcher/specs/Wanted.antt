@@ -1,4 +1,4 @@
--- For private clauses alone: at atoms of what classes each recursive part is asked.
+-- For private clauses alone: the classes of the atoms at which each recursive part is asked.
 use Rattle.std.specs.Prelude.{◌≡◌, ℕ, List, slice_index, All}
 use Rattle.std.specs.Int.{bit_at}
 use Rattle.smarts_parse.specs.declared.pattern.AtomPrim.{AtomPrim}
@@ -22,7 +22,7 @@ NamesOnly S (Or e f) = NamesOnly S e × NamesOnly S f
 abbrev pub IsWithin : ℕ → ℕ → Type 0
 IsWithin xs ys = (c : ℕ) → bit_at xs c ≡ 1 → bit_at ys c ≡ 1
 
--- and each word of a list those of the word at its place in another
+-- as `IsWithin`, of each word of a list and the word at its place in another
 abbrev pub AreWithin : List ℕ → List ℕ → Type 0
 AreWithin old new = (k : ℕ) → IsWithin (slice_index old k) (slice_index new k)
 
@@ -30,7 +30,7 @@ AreWithin old new = (k : ℕ) → IsWithin (slice_index old k) (slice_index new 
 abbrev pub IsAsked : List ℕ → Term AtomPrim → Type 0
 IsAsked wanted e = NamesOnly (λ k. Covers (slice_index wanted k) e) e
 
--- the same of each expression of a pattern's graphs
+-- as `IsAsked`, of each expression of a pattern's graphs
 pub record AreWanted (p : PatternTerm) (wanted : List ℕ) : Type 0 where
   pub top : All (IsAsked wanted) p.top.atoms
   pub parts : All (λ (g : GraphTerm). All (IsAsked wanted) g.atoms) p.recs

@@ -1,4 +1,4 @@
-//! The calls of the crate: the least embedding of a pattern, and whether there is one.
+//! The calls of the crate: the least embedding of a pattern, and a test whether there is an embedding.
 ghost use Rattle.std.specs.Prelude.{◌≡◌, ◌<◌, ◌≤◌, ◌↔◌, ◌+◌, ◌∷◌, [], false, length, map, take, IfNone, IfSome, IsTrue};
 ghost use Rattle.smarts_mean.specs.Table.{HoldsIn};
 ghost use Rattle.smarts_parse.specs.Embedding.{Matches};
@@ -29,16 +29,16 @@ use crate::task::Task;
 use chem_core::Mol;
 use smarts_parse::{Expr, Graph, Pattern};
 
-/// As many places of a graph are few.
+/// The most places of a graph for which `is_crowded` is not asked.
 const FEW_PLACES: usize = 8;
 
-/// An embedding of a pattern: for each atom of its top graph the atom of the molecule where it stands.
+/// An embedding of a pattern: for each atom of its top graph an atom of the molecule.
 #[derive(Debug, Drop)]
 pub struct Embedding<'s> {
     pub atoms: &'s [u16],
 }
 
-/// The least embedding of the pattern in the molecule, in the order of dictionaries; `None` if there is none.
+/// The lexicographically least embedding of the pattern in the molecule; `None` only if there is no embedding.
 ///
 /// Takes no memory. The worst case takes exponential time.
 pub fn first<'s>(pattern: &Pattern, mol: &Mol, scratch: &'s mut Scratch) -> Option<Embedding<'s>>
@@ -56,7 +56,7 @@ pub fn first<'s>(pattern: &Pattern, mol: &Mol, scratch: &'s mut Scratch) -> Opti
     }
 }
 
-/// Whether the pattern has an embedding in the molecule.
+/// True if the pattern has an embedding in the molecule.
 ///
 /// Takes no memory. The worst case takes exponential time.
 pub fn has(pattern: &Pattern, mol: &Mol, scratch: &mut Scratch) -> bool
@@ -70,7 +70,7 @@ pub fn has(pattern: &Pattern, mol: &Mol, scratch: &mut Scratch) -> bool
 impl Scratch {
     ghost use Rattle.matcher.specs.Prepared.{IsPreparedFor};
 
-    /// Whether the pattern, which was prepared last, has an embedding in the molecule.
+    /// True if the pattern, which was prepared last, has an embedding in the molecule.
     ///
     /// Takes no memory. The worst case takes exponential time.
     pub fn has(&mut self, pattern: &Pattern, mol: &Mol) -> bool
@@ -83,7 +83,7 @@ impl Scratch {
     }
 }
 
-// Whether the pattern, for which all is prepared, has an embedding in the molecule.
+// True if the pattern, for which all is prepared, has an embedding in the molecule.
 fn matches(pattern: &Pattern, prepared: &Prepared, mol: &Mol, memory: &mut Memory) -> bool
     requires sound { IsSoundPattern (pattern_of pattern.now) }
     requires prepared { IsPrepared (pattern_of pattern.now) prepared.now }
@@ -109,7 +109,7 @@ fn matches(pattern: &Pattern, prepared: &Prepared, mol: &Mol, memory: &mut Memor
     }
 }
 
-// Whether the graph has an embedding, where recursive parts hold as the table says.
+// True if the graph has an embedding. The table says at which atoms recursive parts hold.
 fn exists(
     graph: &Graph,
     steps: &[EarlierBonds],
@@ -146,8 +146,8 @@ fn exists(
     place_least(&task, candidates, image, &mut memory.choices)
 }
 
-// Whether the graph has an embedding, where searches in orders of their own find it out. One from its first place is
-// left to the search for the least embedding.
+// Searches in the graph's own order. Returns whether there is an embedding; `None` if the search does not decide it, or
+// if it would begin at the first place, as the search for the least embedding does.
 fn seek(task: &Task, candidates: &Candidates, order: &Order, image: &mut [u16]) -> Option<bool>
     requires ready { IsReadyTask task.now }
     requires room { length task.now.graph.now.atoms.items ≤ length image.old }
@@ -174,8 +174,8 @@ fn seek(task: &Task, candidates: &Candidates, order: &Order, image: &mut [u16]) 
     None
 }
 
-// Whether one of the components, whose stops stand one after another, has no embedding by itself. Different components
-// could still meet.
+// True if one of the components, whose stops follow one another, has no embedding by itself. Embeddings of different
+// components could still meet.
 fn lacks_component(
     task: &Task,
     candidates: &Candidates,
@@ -199,7 +199,7 @@ fn lacks_component(
     false
 }
 
-// Where the component ends that begins at a stop.
+// The end of the component that begins at a stop.
 fn end_of_component(stops: &[Placement], begin: usize) -> usize
     requires { begin < length stops.now }
     ensures from { begin ≤ result }
@@ -213,7 +213,8 @@ fn end_of_component(stops: &[Placement], begin: usize) -> usize
     stops.len()
 }
 
-// Whether a search in that order finds that there is no embedding. If not, the image has what it found.
+// True only if a search in this order shows that there is no embedding. If false, the image has the result of the
+// search.
 fn finds_none(task: &Task, candidates: &Candidates, order: &[Placement], image: &mut [u16]) -> bool
     requires ready { IsReadyTask task.now }
     requires room { length task.now.graph.now.atoms.items ≤ length image.old }
@@ -227,7 +228,7 @@ fn finds_none(task: &Task, candidates: &Candidates, order: &[Placement], image: 
     !may_continue(task, candidates, order, image, 0, 0)
 }
 
-// Leaves the least embedding at the front of the image, if there is one.
+// Writes the least embedding at the front of the image. Returns false if there is no embedding.
 fn find(pattern: &Pattern, prepared: &Prepared, mol: &Mol, memory: &mut Memory) -> bool
     requires sound { IsSoundPattern (pattern_of pattern.now) }
     requires prepared { IsPrepared (pattern_of pattern.now) prepared.now }
@@ -261,8 +262,8 @@ fn find(pattern: &Pattern, prepared: &Prepared, mol: &Mol, memory: &mut Memory) 
     place_least(&task, &memory.candidates, image, &mut memory.choices)
 }
 
-// Whether it is found before any search that the graph, of which bonds on rings are marked, has no embedding. If not,
-// the candidates of its places are found.
+// True only if quick tests show that the graph, whose bonds on rings are marked, has no embedding. If false, the
+// candidates of its places are found.
 fn is_refused(
     task: &Task,
     closing: &Closing,
@@ -299,7 +300,7 @@ fn is_refused(
     is_loose(task.steps) && choices.refuse(task, candidates, &[])
 }
 
-// Whether a place has no candidate, in a molecule of at most 64 atoms.
+// True if a place has no candidate, in a molecule of at most 64 atoms.
 fn lacks_candidate(task: &Task, candidates: &Candidates) -> bool
     requires ready { IsReadyTask task.now }
     requires candidates { AreCandidates task.now candidates.now.words.items }
@@ -317,8 +318,7 @@ fn lacks_candidate(task: &Task, candidates: &Candidates) -> bool
     false
 }
 
-// Whether a bond of the graph can lie at no bond. Of a few places that bonds join only rare bonds are asked for: the
-// others are sooner searched for.
+// True only if a double or triple bond of the graph fits no bond of the molecule. Other bonds are sooner searched for.
 fn lacks_bond(task: &Task, candidates: &Candidates) -> bool
     requires ready { IsReadyTask task.now }
     requires candidates { AreCandidates task.now candidates.now.words.items }
@@ -338,7 +338,7 @@ fn lacks_bond(task: &Task, candidates: &Candidates) -> bool
     false
 }
 
-// Whether a bond of the graph asks what its first bond does, as far as is seen at once.
+// True if a bond of the graph has the primitive of its first bond, and ends of the same classes.
 fn is_alike(task: &Task, place: usize) -> bool
     requires { place < length task.now.graph.now.bonds.items }
 {
@@ -352,7 +352,7 @@ fn is_alike(task: &Task, place: usize) -> bool
         && classes_at(task, first.b) == classes_at(task, bond.b)
 }
 
-// The classes at a place.
+// The classes of the atoms that a place may be mapped to.
 fn classes_at(task: &Task, place: u16) -> u64 {
     match task.steps.get(usize::from(place)) {
         Some(step) => step.classes,

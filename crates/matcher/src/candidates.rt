@@ -1,5 +1,5 @@
-//! At which atoms each place of a graph may stand: a word for a place and each block of 64 atoms, with a bit for each
-//! atom. At first these are the atoms at which the place's expression is true.
+//! The candidates of each place of a graph: the atoms to which it may be mapped, as bits of a word for each block of 64
+//! atoms. At first these are the atoms at which the place's expression is true.
 ghost use Rattle.std.specs.Prelude.{◌≡◌, ◌<◌, ◌≤◌, ◌+◌, ◌-◌, ◌*◌, ◌↔◌, ℕ, length, min, slice_get, slice_index, vec_len, IsTrue};
 ghost use Rattle.std.specs.Int.{bit_at};
 ghost use Rattle.smarts_mean.specs.Table.{HoldsIn, Table};
@@ -17,11 +17,11 @@ use smarts_mean::{MOST_PARTS, RecTable, prim_true};
 use smarts_parse::{AtomPrim, Expr};
 use std::alloc::{AllocError, Global};
 
-/// The words for the places of the largest graph and the atoms of the largest molecule: first those of all places for
-/// the first block of atoms, then those for the second.
+/// The number of words for the places of the largest graph and the atoms of the largest molecule. The words of all
+/// places for the first block of atoms come first, then those for the second.
 pub const MOST_WORDS: usize = 16 * MOST_PLACES;
 
-/// The most atoms of a molecule for which one word has a bit each.
+/// The most atoms of a molecule that have a bit each in one word.
 pub const MOST_BITS: usize = 64;
 
 /// The candidates of the places of a graph. There is room for every graph and molecule within the limits.
@@ -41,7 +41,7 @@ impl Candidates {
         })
     }
 
-    /// Finds at which atoms the expression of each place is true.
+    /// Finds the atoms at which the expression of each place is true.
     pub fn find(&mut self, task: &Task)
         requires { IsReadyTask task.now }
         ensures truths { AreTruths task.now self.new.words.items }
@@ -50,7 +50,7 @@ impl Candidates {
         find_truths(task, &mut self.words);
     }
 
-    /// Whether the place may stand at the atom.
+    /// True if the atom is a candidate of the place.
     pub fn has(&self, place: usize, atom: u16) -> bool
         requires { place < MOST_PLACES }
         ensures { IsTrue result ↔ IsCandidate self.now.words.items place atom }
@@ -72,7 +72,7 @@ impl Candidates {
         self.words[MOST_PLACES * block + place]
     }
 
-    /// At which atoms of a block the first place may stand.
+    /// The candidates of the first place in a block.
     pub fn first_in(&self, mol: &Mol, block: usize) -> u64
         requires { block < 16 }
         ensures { (i : ℕ) → i < 64 → bit_at result i ≡ 1
@@ -98,7 +98,7 @@ impl Candidates {
     }
 }
 
-// Finds at which atoms the expression of each place is true.
+// Finds the atoms at which the expression of each place is true.
 fn find_truths(task: &Task, words: &mut [u64])
     requires ready { IsReadyTask task.now }
     requires room { length words.old ≡ MOST_WORDS }
@@ -109,7 +109,7 @@ fn find_truths(task: &Task, words: &mut [u64])
     }
 }
 
-// The same for a block of atoms. The words before are kept.
+// As `find_truths`, but for a block of atoms. The words of earlier blocks are kept.
 fn find_block(task: &Task, words: &mut [u64], block: usize)
     requires ready { IsReadyTask task.now }
     requires room { length words.old ≡ MOST_WORDS }
@@ -142,7 +142,7 @@ fn word_at(task: &Task, words: &[u64], block: usize, place: usize) -> u64
     }
 }
 
-// At which atoms of a block the expression of a place is true.
+// The atoms of a block at which the expression of a place is true.
 fn place_truth(task: &Task, block: usize, place: usize) -> u64
     requires ready { IsReadyTask task.now }
     requires block { block < 16 }
@@ -162,7 +162,7 @@ pub fn all_in(mol: &Mol, block: usize) -> u64
     ones(mol.atoms().len().saturating_sub(64 * block).min(64))
 }
 
-// The word with as many ones.
+// The word whose lowest `count` bits are ones.
 fn ones(count: usize) -> u64
     requires { count ≤ 64 }
     ensures { (i : ℕ) → bit_at result i ≡ 1 ↔ i < count }
@@ -174,7 +174,7 @@ fn ones(count: usize) -> u64
     }
 }
 
-// At which atoms of a word for a block the expression is true.
+// The atoms of the word `within`, for a block, at which the expression is true.
 fn truth(expr: &Expr<AtomPrim>, mol: &Mol, table: &RecTable, block: usize, within: u64) -> u64
     requires names { NamesBelow MOST_PARTS (term_of expr.now) }
     requires block { block < 16 }
@@ -196,7 +196,7 @@ fn truth(expr: &Expr<AtomPrim>, mol: &Mol, table: &RecTable, block: usize, withi
     }
 }
 
-// The same of a primitive. Most are a symbol or a number, which are found at once. A part has a row of words.
+// As `truth`, but of a primitive. Most are a symbol or a number, which are found at once. A part has a row of words.
 fn prim_truth(prim: AtomPrim, mol: &Mol, table: &RecTable, block: usize, within: u64) -> u64
     requires names { PrimNamesBelow MOST_PARTS prim }
     requires block { block < 16 }
@@ -211,7 +211,7 @@ fn prim_truth(prim: AtomPrim, mol: &Mol, table: &RecTable, block: usize, within:
     }
 }
 
-// The same of a symbol. Those of the first block are found at once.
+// As `prim_truth`, but of a symbol. Those of the first block are found at once.
 fn symbol_truth(mol: &Mol, block: usize, within: u64, number: u8, lower: bool) -> u64
     requires { block < 16 }
     ensures { (t : Table)
@@ -224,7 +224,7 @@ fn symbol_truth(mol: &Mol, block: usize, within: u64, number: u8, lower: bool) -
     }
 }
 
-// The same where each atom is asked. The word is made from the last atom down, without a branch.
+// As `symbol_truth`, but each atom is asked. The word is made from the last atom down, without a branch.
 fn symbol_truth_by_atom(mol: &Mol, block: usize, within: u64, number: u8, lower: bool) -> u64
     requires { block < 16 }
     ensures { (t : Table)
@@ -238,7 +238,8 @@ fn symbol_truth_by_atom(mol: &Mol, block: usize, within: u64, number: u8, lower:
     word & within
 }
 
-// The same of a number, aromatic or not. One above 255, which is at no atom, is asked as in a later block.
+// As `prim_truth`, but of a number, aromatic or not. A number above 255, which no atom has, is asked as in a later
+// block.
 fn number_truth(mol: &Mol, block: usize, within: u64, number: u16) -> u64
     requires { block < 16 }
     ensures { (t : Table)
@@ -252,7 +253,7 @@ fn number_truth(mol: &Mol, block: usize, within: u64, number: u16) -> u64
     }
 }
 
-// The same where each atom is asked.
+// As `number_truth`, but each atom is asked.
 fn number_truth_by_atom(mol: &Mol, block: usize, within: u64, number: u16) -> u64
     requires { block < 16 }
     ensures { (t : Table)
@@ -279,7 +280,7 @@ fn block_atoms(mol: &Mol, block: usize) -> &[Atom]
     &atoms[from..to]
 }
 
-// The bits of a word one place up, and a new one below them.
+// The bits of a word one place up, and a new lowest bit.
 #[inline(always)]
 fn with_lowest(word: u64, bit: bool) -> u64
     ensures lowest { bit_at result 0 ≡ 1 ↔ IsTrue bit }
@@ -288,7 +289,7 @@ fn with_lowest(word: u64, bit: bool) -> u64
     (word << 1) | u64::from(bit)
 }
 
-// The same of any primitive.
+// As `prim_truth`, but each atom of the word is asked, by any primitive.
 fn asked_truth(prim: AtomPrim, mol: &Mol, table: &RecTable, block: usize, within: u64) -> u64
     requires names { PrimNamesBelow MOST_PARTS prim }
     requires block { block < 16 }
@@ -322,7 +323,7 @@ fn has_number(atom: Atom, number: u16) -> bool
     u16::from(atom.number) == number
 }
 
-/// Whether the word has the bit.
+/// True if the word has the bit.
 pub fn has(word: u64, bit: u16) -> bool
     requires { bit < 64 }
     ensures { IsTrue result ↔ bit_at word bit ≡ 1 }

@@ -1,8 +1,7 @@
-//! A choice of different atoms for the places of a graph that are left, each where its place may stand: places choose
-//! in turn, and one that finds all its atoms chosen lets earlier places choose anew, along a shortest chain. In the
-//! same way the groups that are left choose different components.
+//! Different atoms for the places of a graph that are left, each a candidate of its place: bipartite matching by
+//! shortest augmenting paths. In the same way the groups that are left choose different components.
 //!
-//! Nothing is promised of a choice. Where none is found, the places and atoms that the last try reached show why.
+//! Nothing is promised of a choice. If no choice is found, the places and atoms that the last try reached show why.
 ghost use Rattle.std.specs.Prelude.{◌≡◌, ◌<◌, length, IsTrue};
 ghost use Rattle.matcher.specs.Candidates.{AreCandidates};
 ghost use Rattle.matcher.specs.Task.{Completes, IsReadyTask};
@@ -24,15 +23,15 @@ const NONE: u16 = u16::MAX;
 #[derive(Debug, Drop)]
 pub struct Choices {
     assignment: Assignment,
-    // how many searches found no place for an atom that no bond joins to an earlier one
+    // the number of searches that found no atom for a place that no bond joins to an earlier one, modulo 2^64
     failures: u64,
-    // how many had when the search began
+    // that number when the search began
     begun: u64,
-    // whether the pattern has two groups at least
+    // true if the pattern has at least two groups
     grouped: bool,
 }
 
-// What places choose: an atom each; or each the component of an atom, which its least atom stands for.
+// The seats that places choose: an atom each, or a component each, named by its least atom.
 #[derive(Clone, Copy)]
 enum Seats {
     Atoms,
@@ -60,7 +59,7 @@ impl Choices {
         self.begun = self.failures;
     }
 
-    /// How many failures were counted, modulo 2^64.
+    /// The number of failures, modulo 2^64.
     pub fn failures(&self) -> u64 {
         self.failures
     }
@@ -70,7 +69,7 @@ impl Choices {
         self.failures = self.failures.wrapping_add(1);
     }
 
-    /// Whether it is found that the graph cannot be completed after the atoms in front.
+    /// True only if no embedding extends `front`.
     pub fn refuse(&mut self, task: &Task, candidates: &Candidates, front: &[u16]) -> bool
         requires ready { IsReadyTask task.now }
         requires candidates { AreCandidates task.now candidates.now.words.items }
@@ -85,8 +84,8 @@ impl Choices {
         self.assignment.refuse_groups(task, candidates, front)
     }
 
-    /// The same where the last atom in front begins a group, and as far as groups show. It is tried only after a
-    /// failure of the search.
+    /// As `refuse`, but tried only after a failure of the search, if the last atom of `front` begins a group, and as
+    /// far as groups show.
     #[inline(always)]
     pub fn refuse_group(&mut self, task: &Task, candidates: &Candidates, front: &[u16]) -> bool
         requires ready { IsReadyTask task.now }
@@ -99,7 +98,7 @@ impl Choices {
         self.refuse_begun(task, candidates, front)
     }
 
-    // The same of a pattern with groups.
+    // As `refuse_group`, but of a pattern with groups.
     #[cold]
     fn refuse_begun(&mut self, task: &Task, candidates: &Candidates, front: &[u16]) -> bool
         requires ready { IsReadyTask task.now }
@@ -118,7 +117,7 @@ impl Choices {
         self.assignment.refuse_groups(task, candidates, front)
     }
 
-    /// The same as `refuse`, which is tried only if failures were counted since they were as many as these.
+    /// As `refuse`, but tried only if a failure was counted since their number was `failures`.
     pub fn refuse_since(
         &mut self,
         failures: u64,
@@ -140,10 +139,10 @@ impl Choices {
 // An atom for each place that has one.
 #[derive(Debug, Drop)]
 struct Assignment {
-    // for each place the atom that it chose, and whether the last try reached it
+    // for each place the atom that it chose, and whether the last try reached the place
     chosen: Vec<u16>,
     reached: Vec<bool>,
-    // for each atom the place that chose it, whether the last try reached it, and from which place
+    // for each atom the place that chose it, whether the last try reached the atom, and from which place
     holder: Vec<u16>,
     seen: Vec<bool>,
     from: Vec<u16>,
@@ -163,7 +162,7 @@ impl Assignment {
         })
     }
 
-    // Whether it is found that the graph cannot be completed after the atoms in front.
+    // True only if no embedding extends `front`.
     fn refuse(&mut self, task: &Task, candidates: &Candidates, front: &[u16]) -> bool
         requires ready { IsReadyTask task.now }
         requires candidates { AreCandidates task.now candidates.now.words.items }
@@ -179,7 +178,7 @@ impl Assignment {
         false
     }
 
-    // The same as far as groups show that do not begin in front.
+    // As `refuse`, but as far as groups show that do not begin in `front`.
     fn refuse_groups(&mut self, task: &Task, candidates: &Candidates, front: &[u16]) -> bool
         requires ready { IsReadyTask task.now }
         requires candidates { AreCandidates task.now candidates.now.words.items }
@@ -198,7 +197,7 @@ impl Assignment {
         false
     }
 
-    // Forgets what was chosen.
+    // Forgets all choices.
     fn forget(&mut self, task: &Task) {
         for chosen in self.chosen.iter_mut().take(task.graph.atoms.len()) {
             *chosen = NONE;
@@ -208,7 +207,7 @@ impl Assignment {
         }
     }
 
-    // Whether the places and atoms that the last try reached show that the graph cannot be completed.
+    // True only if the places and atoms that the last try reached show that no embedding extends `front`.
     fn shows_why(&self, task: &Task, candidates: &Candidates, front: &[u16]) -> bool
         requires ready { IsReadyTask task.now }
         requires candidates { AreCandidates task.now candidates.now.words.items }
@@ -228,7 +227,7 @@ impl Assignment {
         )
     }
 
-    // The same of the groups and components.
+    // As `shows_why`, but of groups and components.
     fn shows_why_groups(&self, task: &Task, candidates: &Candidates, front: &[u16]) -> bool
         requires ready { IsReadyTask task.now }
         requires candidates { AreCandidates task.now candidates.now.words.items }
@@ -248,7 +247,7 @@ impl Assignment {
         )
     }
 
-    // Gives the place a seat, if it can have one.
+    // Gives the place a seat. Returns false if it can have no seat.
     fn choose(
         &mut self,
         task: &Task,
@@ -283,8 +282,8 @@ impl Assignment {
         false
     }
 
-    // Reaches the seats where the place may stand, and from each the place that holds it. `None` where one was free,
-    // so that it was chosen.
+    // Reaches the seats that the place may take, and from each seat its holder. Returns the new end of the queue.
+    // `None` if a seat was free: then it is chosen.
     fn step(
         &mut self,
         task: &Task,
@@ -321,7 +320,7 @@ impl Assignment {
         self.seen.get(usize::from(atom)).copied().unwrap_or(true)
     }
 
-    // Marks an atom as seen from a place. Its holder, if there is one.
+    // Marks an atom as seen from a place. Returns its holder, or `NONE`.
     fn see(&mut self, atom: u16, place: u16) -> u16 {
         if let Some(seen) = self.seen.get_mut(usize::from(atom)) {
             *seen = true;
@@ -332,7 +331,7 @@ impl Assignment {
         self.holder.get(usize::from(atom)).copied().unwrap_or(NONE)
     }
 
-    // Puts a place at the end of the queue, unless it was there before. The new end.
+    // Appends a place to the queue, unless it was there before. Returns the new end.
     fn reach(&mut self, place: u16, last: usize) -> usize {
         match self.reached.get_mut(usize::from(place)) {
             Some(reached) if !*reached => *reached = true,
@@ -345,8 +344,8 @@ impl Assignment {
         last.saturating_add(1)
     }
 
-    // Gives a free atom to the place that reached it, and the atom of that place to the one that reached it, back to
-    // the place that had none.
+    // Augments along the path to a free atom: each place on it takes the atom that it reached, back to the place that
+    // had no atom.
     fn exchange(&mut self, free: u16) {
         let mut atom = free;
         for _ in 0..MOST_PLACES {

@@ -1,5 +1,5 @@
-//! Of what classes an atom may be at which an expression is true. By these most atoms are seen at once not to be what
-//! it asks. A set of classes is a word with a bit for each.
+//! The classes of the atoms at which an expression may be true. They rule out most atoms at once. A set of classes is a
+//! word with a bit for each class.
 ghost use Rattle.std.specs.Prelude.{◌≡◌, ◌<◌, ℕ, ◌↔◌, IsTrue};
 ghost use Rattle.std.specs.Int.{bit_at};
 ghost use Rattle.chem_core.specs.declared.mol.Atom.{Atom};
@@ -10,7 +10,7 @@ ghost use Rattle.matcher.specs.Class.{Covers, PrimMayBe};
 use chem_core::{Atom, class};
 use smarts_parse::{AtomPrim, Expr};
 
-/// Whether the atom is of one of the classes.
+/// True if the atom is of one of the classes.
 pub fn may_be(classes: u64, atom: Atom) -> bool
     ensures { IsTrue result ↔ bit_at classes (class_of atom) ≡ 1 }
 {
@@ -29,7 +29,7 @@ pub fn classes_of(expr: &Expr<AtomPrim>) -> u64
     }
 }
 
-// The same of a primitive.
+// As `classes_of`, but of a primitive.
 fn prim_classes(prim: AtomPrim) -> u64
     ensures { (c : ℕ) → c < 64 → PrimMayBe prim c → bit_at result c ≡ 1 }
 {
@@ -40,7 +40,7 @@ fn prim_classes(prim: AtomPrim) -> u64
     }
 }
 
-// The class alone of the atoms of that number.
+// The set of the one class of the atoms with this number.
 fn only(number: u16, aromatic: bool) -> u64
     ensures { bit_at result (class_at number aromatic) ≡ 1 }
 {

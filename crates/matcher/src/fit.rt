@@ -1,4 +1,4 @@
-//! Whether the next atom of a graph may stand at an atom, where those before it are placed.
+//! Tests whether the next atom of a graph fits an atom of the molecule, after the atoms before it are placed.
 ghost use Rattle.std.specs.Prelude.{◌≡◌, ◌<◌, ◌≤◌, ◌≢◌, ◌+◌, ◌++◌, ◌∷◌, [], ◌↔◌, ℕ, length, map, max, min, All, Contains, IfNone, IfSome, IsTrue};
 ghost use Rattle.chem_core.specs.Graph.{JoinsAt};
 ghost use Rattle.chem_core.specs.Molecule.{ends_of};
@@ -14,8 +14,8 @@ use chem_core::Mol;
 use smarts_mean::bond_true;
 use smarts_parse::{BondPrim, Expr, PatBond};
 
-/// Whether the next atom may stand at that one after the atoms in front. Its expression is known to be true there and
-/// its first bond to an earlier atom to embed, and neither is looked at again.
+/// True if the next atom may be mapped to `atom` after `front`. Its expression is known to be true there, and its first
+/// bond to an earlier atom to embed. Neither is tested again.
 pub fn fits(task: &Task, front: &[u16], atom: u16) -> bool
     requires ready { IsReadyTask task.now }
     requires few { length front.now < length task.now.graph.now.atoms.items }
@@ -34,8 +34,8 @@ pub fn fits(task: &Task, front: &[u16], atom: u16) -> bool
     closes(task, front, atom)
 }
 
-/// Whether the bonds of the next atom to earlier ones embed with it there. The first of them is known to, and is not
-/// looked at again. Mostly there is no other.
+/// True if the bonds of the next atom to earlier ones embed with it at `atom`. The first of them is known to embed, and
+/// is not tested again. Mostly there is no other.
 #[inline(always)]
 pub fn closes(task: &Task, front: &[u16], atom: u16) -> bool
     requires ready { IsReadyTask task.now }
@@ -55,7 +55,7 @@ pub fn closes(task: &Task, front: &[u16], atom: u16) -> bool
     bonds_embed(others, task.mol, front, atom)
 }
 
-/// Whether the first bond of the next atom to an earlier one, if there is one, embeds with it there.
+/// True only if the first bond of the next atom to an earlier one, if there is one, embeds with it at `atom`.
 pub fn first_embeds(task: &Task, front: &[u16], atom: u16) -> bool
     requires ready { IsReadyTask task.now }
     requires few { length front.now < length task.now.graph.now.atoms.items }
@@ -69,14 +69,14 @@ pub fn first_embeds(task: &Task, front: &[u16], atom: u16) -> bool
     bond_embeds(&task.graph.bonds[step.from], task.mol, front, atom)
 }
 
-/// Whether the atom is none of those in front.
+/// True if the atom is not one of `front`.
 pub fn is_new(front: &[u16], atom: u16) -> bool
     ensures { IsTrue result ↔ ¬ Contains front.now atom }
 {
     !front.contains(&atom)
 }
 
-// Whether each bond of the next atom embeds with it there.
+// True if each bond of the next atom to an earlier one embeds with it at `atom`.
 fn bonds_embed(bonds: &[PatBond], mol: &Mol, front: &[u16], atom: u16) -> bool
     requires apart { All (λ bond. bond.a ≢ bond.b) (map bond_of bonds.now) }
     requires in_range { All (λ a. a < length mol.now.atoms) front.now }
@@ -92,7 +92,7 @@ fn bonds_embed(bonds: &[PatBond], mol: &Mol, front: &[u16], atom: u16) -> bool
     true
 }
 
-// Whether a bond from an earlier atom to the next embeds with it there.
+// True if a bond from an earlier atom to the next embeds with it at `atom`.
 fn bond_embeds(bond: &PatBond, mol: &Mol, front: &[u16], atom: u16) -> bool
     requires high { max bond.now.a bond.now.b ≡ length front.now }
     requires apart { bond.now.a ≢ bond.now.b }
@@ -107,7 +107,7 @@ fn bond_embeds(bond: &PatBond, mol: &Mol, front: &[u16], atom: u16) -> bool
     )
 }
 
-/// Whether a bond joins the two atoms at which the expression is true.
+/// True if a bond joins the two atoms at which the expression is true.
 pub fn are_joined_by(expr: &Expr<BondPrim>, mol: &Mol, from: u16, to: u16) -> bool
     requires { from < length mol.now.atoms }
     ensures { IsTrue result

@@ -1,5 +1,5 @@
-//! Groups of places: those of one group stand in one component of the molecule, those of different groups in different
-//! ones. A place of no group stands anywhere.
+//! Groups of places: the places of one group are mapped into one component of the molecule, those of different groups
+//! into different ones. A place of no group is mapped anywhere.
 ghost use Rattle.std.specs.Prelude.{◌≡◌, ◌<◌, ◌≤◌, ◌↔◌, ℕ, Bool, true, List, count_by, length, slice_index_or, IsTrue};
 ghost use Rattle.matcher.specs.Group.{BeginsGroup, HasFew, IsNowhere, KeepsGroup, KeepsGroups, is_of_group};
 ghost use Rattle.matcher.specs.Task.{IsReadyTask};
@@ -7,7 +7,7 @@ ghost use Rattle.matcher.specs.Task.{IsReadyTask};
 use crate::task::Task;
 use chem_core::Mol;
 
-/// Whether a place keeps to groups at an atom, where the places that are taken stand in the image.
+/// True if a place keeps to groups at `atom`, beside the places that `taken` maps.
 #[inline(always)]
 pub fn keeps_groups(task: &Task, taken: &[u16], place: usize, atom: u16) -> bool
     requires ready { IsReadyTask task.now }
@@ -22,7 +22,7 @@ pub fn keeps_groups(task: &Task, taken: &[u16], place: usize, atom: u16) -> bool
     keeps_group(task, taken, group, atom)
 }
 
-// The same of a place of a group. Most patterns have none.
+// As `keeps_groups`, but of a place of a group. Most patterns have no groups.
 #[cold]
 fn keeps_group(task: &Task, taken: &[u16], group: u16, atom: u16) -> bool
     requires ready { IsReadyTask task.now }
@@ -53,7 +53,7 @@ fn keeps_group(task: &Task, taken: &[u16], group: u16, atom: u16) -> bool
     true
 }
 
-/// Whether the place is the first of a group.
+/// True if the place is the first of a group.
 pub fn begins_group(task: &Task, place: usize) -> bool
     requires ready { IsReadyTask task.now }
     requires place { place < length task.now.graph.now.atoms.items }
@@ -66,8 +66,8 @@ pub fn begins_group(task: &Task, place: usize) -> bool
     !task.graph.groups[..place].contains(&group)
 }
 
-/// Whether the group of a place has more places than the component of an atom has atoms: then no embedding has the
-/// place there.
+/// True only if the group of a place has more places than the component of an atom has atoms. Then no embedding maps
+/// the place to it.
 pub fn lacks_room(task: &Task, place: usize, atom: u16) -> bool
     requires ready { IsReadyTask task.now }
     requires place { place < length task.now.graph.now.atoms.items }
@@ -81,7 +81,7 @@ pub fn lacks_room(task: &Task, place: usize, atom: u16) -> bool
     has_few_atoms(task.mol, atom, places_of(&task.graph.groups, group))
 }
 
-// How many places the group has.
+// The number of places of the group.
 fn places_of(groups: &[u16], group: u16) -> usize
     ensures { result ≡ count_by (is_of_group group) groups.now }
 {
@@ -94,7 +94,7 @@ fn places_of(groups: &[u16], group: u16) -> usize
     count
 }
 
-// Whether the component of an atom has fewer atoms than that.
+// True only if the component of an atom has fewer than `count` atoms.
 fn has_few_atoms(mol: &Mol, atom: u16, count: usize) -> bool
     requires { atom < length mol.now.atoms }
     ensures { IsTrue result → HasFew mol.now atom count }

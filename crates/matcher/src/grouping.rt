@@ -1,5 +1,5 @@
-//! Fewer candidates of the first place of each group: only atoms from which the whole group can be placed in their
-//! component. So what is left to find is a different component for each group.
+//! Reduces the candidates of the first place of each group to atoms from which the whole group can be placed in their
+//! component. Then only different components for the groups are left to find.
 ghost use Rattle.std.specs.Prelude.{◌≡◌, ◌<◌, ◌≤◌, [], ℕ, false, length, vec_len, IsTrue};
 ghost use Rattle.matcher.specs.Candidates.{AreCandidates};
 ghost use Rattle.matcher.specs.Group.{IsNowhere};
@@ -15,7 +15,7 @@ use crate::task::Task;
 use smarts_parse::Pattern;
 use std::alloc::{AllocError, Global};
 
-/// As many pieces of a group, which no bond joins, are searched for together: with more of them a search may take long.
+/// The most pieces of a group, not joined by bonds, that are searched for together. With more a search may take long.
 const MOST_PIECES: usize = 4;
 
 /// Memory for searches for one group.
@@ -24,13 +24,13 @@ pub struct Grouping {
     // a stop for each place in turn
     stops: Vec<Placement>,
     image: Vec<u16>,
-    // whether the pattern has two groups at least
+    // true if the pattern has at least two groups
     grouped: bool,
     ghost stops_room: { vec_len stops ≡ 256 },
     ghost image_room: { vec_len image ≡ 256 },
 }
 
-/// Whether a pattern has two groups at least.
+/// True if a pattern has at least two groups.
 pub fn has_groups(pattern: &Pattern) -> bool {
     pattern.top.groups.iter().any(|group| *group > 1)
 }
@@ -50,8 +50,8 @@ impl Grouping {
         self.grouped = has_groups(pattern);
     }
 
-    /// Takes away candidates of the first places of groups, if the pattern has two groups at least. Whether it is found
-    /// that the graph has no embedding.
+    /// Takes away candidates of the first places of groups, if the pattern has at least two groups. True only if the
+    /// graph has no embedding.
     pub fn refuse(&mut self, task: &Task, candidates: &mut Candidates) -> bool
         requires ready { IsReadyTask task.now }
         requires candidates { AreCandidates task.now candidates.old.words.items }
@@ -73,7 +73,7 @@ impl Grouping {
         false
     }
 
-    // Takes away candidates of the first place of a group. Whether it has none left.
+    // Takes away candidates of the first place of a group. Returns true if it has no candidate left.
     fn narrow(&mut self, task: &Task, candidates: &mut Candidates, place: usize) -> bool
         requires ready { IsReadyTask task.now }
         requires place { place < length task.now.graph.now.atoms.items }
@@ -96,8 +96,8 @@ impl Grouping {
         none
     }
 
-    // Whether the group that begins at a place, and as far as is searched ends before another, may be placed with its
-    // first place at an atom.
+    // False only if the group that begins at a place cannot be placed with this place at `atom`. The search goes as far
+    // as `end`.
     fn may_begin(
         &mut self,
         task: &Task,
@@ -158,7 +158,7 @@ fn after_earlier(place: u16, step: EarlierBonds) -> Placement {
     }
 }
 
-// Where a group ends that begins at the place, or its first few pieces.
+// The end of the group that begins at the place, or of its first few pieces.
 fn end_of_group(task: &Task, place: usize) -> usize
     requires ready { IsReadyTask task.now }
     requires place { place < length task.now.graph.now.atoms.items }

@@ -1,8 +1,8 @@
-//! A search for any embedding of a graph, in an order of its own. An image says by the places of the graph where they
-//! stand; a place is taken where the image has an atom of the molecule. Of the first 64 atoms a word has those that are
-//! taken, and the atoms at which a place may stand are gone through by words.
+//! A search for any embedding of a graph, in an order of its own. An image has a number for each place of the graph. A
+//! place is taken if that is an atom of the molecule. The word `used` has the taken atoms among the first 64, and the
+//! candidates of a place are tried by words.
 //!
-//! Nothing is promised where the search comes to its end, but where it does not, there is no embedding.
+//! A failed search is final: there is no embedding. Nothing is promised of a search that succeeds.
 ghost use Rattle.std.specs.Prelude.{◌∷◌, ◌++◌, ◌≡◌, ◌≢◌, ◌<◌, ◌≤◌, ◌+◌, ◌*◌, ◌↔◌, ◌⊎◌, [], ℕ, List, false, length, slice_index, IfSome, IsTrue};
 ghost use Rattle.std.specs.Int.{bit_at};
 ghost use Rattle.matcher.specs.Hunt.{AreTaken, Asks, Continues, IsFree, stop_at};
@@ -18,10 +18,9 @@ use crate::task::Task;
 use smarts_mean::bond_true;
 use smarts_parse::PatBond;
 
-/// Whether the stops that are left may be placed. If not, the image is as before. The word has those of the first 64
-/// atoms that are taken.
+/// False only if no embedding extends `image`, which is then unchanged. Bit i of `used` is set only if atom i is taken.
 ///
-/// The calls go as deep as there are stops.
+/// The depth of the calls is at most the number of stops.
 #[cycle(hunt)]
 pub fn may_continue(
     task: &Task,
@@ -53,7 +52,7 @@ pub fn may_continue(
     }
 }
 
-// The same where the next place may stand anywhere.
+// As `may_continue`, with the next place at any atom.
 #[cycle(hunt)]
 fn continues_anywhere(
     task: &Task,
@@ -80,7 +79,7 @@ fn continues_anywhere(
     false
 }
 
-// The same where the next place may stand at an atom of a block.
+// As `may_continue`, with the next place at an atom of `block`.
 #[cycle(hunt)]
 #[inline(always)]
 fn continues_in(
@@ -116,7 +115,7 @@ fn continues_in(
     false
 }
 
-// The same where the bond of the stop joins the next place to one that stands at that atom.
+// As `may_continue`, if the bond of the stop joins the next place to one that is mapped to `from`.
 #[cycle(hunt)]
 fn continues_near(
     task: &Task,
@@ -157,7 +156,7 @@ fn continues_near(
     false
 }
 
-// The same with the next place at that atom, which is not taken if it is one of the first 64.
+// As `may_continue`, with the next place at `atom`, which is not taken if it is one of the first 64.
 #[cycle(hunt)]
 #[inline(always)]
 fn continues_at(
@@ -201,7 +200,7 @@ fn continues_at(
     false
 }
 
-// The candidates of a place in a block, but for those that are taken, as far as the word has these.
+// The candidates of a place in a block, without the taken atoms that `used` has.
 fn free_in(task: &Task, candidates: &Candidates, used: u64, place: usize, block: usize) -> u64
     requires place { place < MOST_PLACES }
     requires block { block < 16 }
@@ -214,7 +213,8 @@ fn free_in(task: &Task, candidates: &Candidates, used: u64, place: usize, block:
     if block == 0 { word & !used } else { word }
 }
 
-// Whether an atom is a candidate of the place, and not taken. The word has those of the first 64.
+// True if `atom` is a candidate of the place and, if it is one of the first 64, not taken. The word `free` has those of
+// the first 64.
 #[inline(always)]
 fn is_free(candidates: &Candidates, place: usize, free: u64, atom: u16) -> bool
     requires { place < MOST_PLACES }
@@ -228,7 +228,8 @@ fn is_free(candidates: &Candidates, place: usize, free: u64, atom: u16) -> bool
     }
 }
 
-// Whether the place of a stop may stand at an atom, which is a candidate, and not taken if it is one of the first 64.
+// False only if the place of a stop cannot be mapped to `atom`, a candidate that is not taken if it is one of the first
+// 64.
 #[inline(always)]
 fn may_take(task: &Task, image: &[u16], stop: Placement, atom: u16) -> bool
     requires ready { IsReadyTask task.now }
@@ -249,7 +250,7 @@ fn may_take(task: &Task, image: &[u16], stop: Placement, atom: u16) -> bool
     stop.closing == NO_BOND || stop.bond == NO_BOND || closes(task, image, stop, atom)
 }
 
-/// The word of the atoms that are taken with one more, if it has a bit for that one.
+/// The word `used` with the bit of `atom`, if it has one.
 pub fn with_taken(used: u64, atom: u16) -> u64
     ensures { (a : ℕ) → bit_at result a ≡ 1 → (a ≡ atom) ⊎ (bit_at used a ≡ 1) }
 {
@@ -260,8 +261,8 @@ pub fn with_taken(used: u64, atom: u16) -> u64
     }
 }
 
-// Whether the bonds of the place of a stop to places that are taken, but for the stop's own, may lie so: each of them,
-// or the only one.
+// False only if a bond from the place of a stop to a taken place, other than the stop's own, rules out `atom`. Each
+// such bond is tested, or the only one.
 fn closes(task: &Task, image: &[u16], stop: Placement, atom: u16) -> bool
     requires ready { IsReadyTask task.now }
     requires room { length task.now.graph.now.atoms.items ≤ length image.now }
@@ -283,7 +284,7 @@ fn closes(task: &Task, image: &[u16], stop: Placement, atom: u16) -> bool
     true
 }
 
-// Whether a bond, if it joins a place to one that is taken, may lie so with the place at an atom.
+// False only if a bond, if it joins the place to a taken one, rules out `atom`.
 fn may_close(task: &Task, image: &[u16], place: u16, bond: u16, atom: u16) -> bool
     requires ready { IsReadyTask task.now }
     requires room { length task.now.graph.now.atoms.items ≤ length image.now }
@@ -304,7 +305,7 @@ fn may_close(task: &Task, image: &[u16], place: u16, bond: u16, atom: u16) -> bo
     }
 }
 
-// The atom at which the other end of the stop's bond stands, if it is taken.
+// The atom to which the other end of the stop's bond is mapped, if that is taken.
 fn atom_before(task: &Task, image: &[u16], stop: Placement) -> Option<u16>
     requires { IsReadyTask task.now }
     ensures from { IfSome result (λ from. from < length task.now.mol.now.atoms) }
@@ -327,7 +328,7 @@ fn atom_before(task: &Task, image: &[u16], stop: Placement) -> Option<u16>
     }
 }
 
-/// The other end of a bond that ends at the place.
+/// The other end of a bond; `None` if the bond does not end at the place.
 pub fn other_end(bond: &PatBond, place: u16) -> Option<u16>
     ensures { IfSome result (λ other. ((bond.now.a ≡ place) × (bond.now.b ≡ other))
         ⊎ ((bond.now.a ≡ other) × (bond.now.b ≡ place))) }
@@ -341,7 +342,7 @@ pub fn other_end(bond: &PatBond, place: u16) -> Option<u16>
     }
 }
 
-/// Whether the atoms at the front of an image are an embedding.
+/// True only if the atoms at the front of an image are an embedding.
 pub fn is_whole(task: &Task, candidates: &Candidates, image: &[u16]) -> bool
     requires ready { IsReadyTask task.now }
     requires room { length task.now.graph.now.atoms.items ≤ length image.now }
@@ -356,7 +357,7 @@ pub fn is_whole(task: &Task, candidates: &Candidates, image: &[u16]) -> bool
     true
 }
 
-// Whether the next atom may stand at that one after the atoms in front.
+// True only if the next atom may be mapped to `atom` after `front`.
 fn begins(task: &Task, candidates: &Candidates, front: &[u16], atom: u16) -> bool
     requires ready { IsReadyTask task.now }
     requires few { length front.now < length task.now.graph.now.atoms.items }

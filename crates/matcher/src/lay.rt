@@ -1,5 +1,5 @@
-//! An order of the places of a graph, for a search from a place that few atoms can take: each other place after one to
-//! which a bond joins it. Nothing is promised of it.
+//! An order of the places of a graph, for a search that begins at a place with few candidates. Each other place comes
+//! after one to which a bond joins it. Nothing is promised of the order.
 ghost use Rattle.std.specs.Prelude.{◌≤◌, length, vec_len};
 
 use crate::plan::{EarlierBonds, is_loose};
@@ -7,19 +7,19 @@ use crate::planned::MOST_PLACES;
 use smarts_parse::{BondPrim, Expr, Graph, PatBond};
 use std::alloc::{AllocError, Global};
 
-/// A place of a graph, and the bond of the graph, if there is one, that joins it to a place before.
+/// A place of a graph, and the bond of the graph that joins it to an earlier place, or `NO_BOND`.
 #[derive(Clone, Copy, Debug)]
 pub struct Placement {
     pub place: u16,
     pub bond: u16,
-    /// The only other bond that does; `NO_BOND` where no other does, `EVERY_BOND` where several may.
+    /// The only other bond that does; `NO_BOND` if there is no other, `EVERY_BOND` if there may be several.
     pub closing: u16,
 }
 
-/// Stands for a bond that there is not.
+/// No bond.
 pub const NO_BOND: u16 = u16::MAX;
 
-/// Stands for each bond of the graph.
+/// Each bond of the graph.
 pub const EVERY_BOND: u16 = u16::MAX - 1;
 
 /// No stop.
@@ -29,14 +29,14 @@ pub const NO_PLACEMENT: Placement = Placement {
     closing: EVERY_BOND,
 };
 
-/// The order of a search in a graph. Where bonds join all places, it begins at one that few atoms can take; it is empty
-/// where the search for the least embedding serves as well. Where they do not, it is one after another the orders of
-/// components of several places.
+/// The order of a search in a graph. If each place but the first has a bond to an earlier one, it begins at a place
+/// with few candidates. It is empty if the search for the least embedding serves as well. Otherwise it is the orders of
+/// the components of several places, one after another.
 #[derive(Debug, Drop)]
 pub struct Order {
     stops: Vec<Placement>,
     laid: usize,
-    // whether bonds do not join all places
+    // true if a place other than the first has no bond to an earlier one
     is_loose: bool,
     ghost room: { laid ≤ vec_len stops },
 }
@@ -61,7 +61,7 @@ impl Order {
         };
     }
 
-    /// Whether the stops are those of components.
+    /// True if the stops are those of components.
     pub fn is_loose(&self) -> bool {
         self.is_loose
     }
@@ -86,7 +86,7 @@ pub fn start_at(place: u16) -> Placement {
     }
 }
 
-// Lays the components of several places, of a graph of at most 64. How many places they have.
+// Lays the components of several places, of a graph of at most 64. Returns the number of stops.
 fn lay_components(graph: &Graph, steps: &[EarlierBonds], stops: &mut [Placement]) -> usize
     ensures { result ≤ length stops.old }
 {
@@ -103,7 +103,7 @@ fn lay_components(graph: &Graph, steps: &[EarlierBonds], stops: &mut [Placement]
     laid
 }
 
-// Whether the place is the first of a component of several.
+// True if the place is the first of a component of several.
 fn begins_component(steps: &[EarlierBonds], place: usize) -> bool {
     let mut steps = steps.iter().skip(place);
     match (steps.next(), steps.next()) {
@@ -112,8 +112,8 @@ fn begins_component(steps: &[EarlierBonds], place: usize) -> bool {
     }
 }
 
-// Lays an order from a place where few atoms stand. How many places it has: none where there is no such place, or where
-// it is the first, or of a graph of one place or of more than 64.
+// Lays an order that begins at a place with few candidates. Returns the number of stops: 0 if there is no such place,
+// if it is the first, or if the graph has one place or more than 64.
 fn lay_rare(graph: &Graph, steps: &[EarlierBonds], stops: &mut [Placement]) -> usize
     ensures { result ≤ length stops.old }
 {
@@ -127,8 +127,8 @@ fn lay_rare(graph: &Graph, steps: &[EarlierBonds], stops: &mut [Placement]) -> u
     }
 }
 
-// Where a search begins: at a place where few atoms stand, or else at the first end of a bond that few bonds are,
-// which then comes next.
+// The start of a search: a place with few candidates. Otherwise it is the first end of a bond that asks for one kind of
+// bond; the other end comes next.
 fn rare_start(bonds: &[PatBond], steps: &[EarlierBonds]) -> Option<Placement> {
     if let Some(place) = rare_place(steps) {
         return Some(start_at(place));
@@ -145,7 +145,7 @@ fn rare_start(bonds: &[PatBond], steps: &[EarlierBonds]) -> Option<Placement> {
     None
 }
 
-// A place where few atoms stand: no carbon, and if there is such a one, none of nitrogen and oxygen.
+// A place with few candidates: one that may be no carbon, and if possible no nitrogen and no oxygen.
 fn rare_place(steps: &[EarlierBonds]) -> Option<u16> {
     let mut found = None;
     for (place, step) in steps.iter().enumerate() {
@@ -159,7 +159,7 @@ fn rare_place(steps: &[EarlierBonds]) -> Option<u16> {
     found
 }
 
-/// Whether few bonds are what a bond of a graph asks.
+/// True if a bond of a graph asks for a kind that few bonds have: double or triple.
 pub fn is_rare(bond: &PatBond) -> bool {
     match bond.expr {
         Expr::Prim(prim) => prim == BondPrim::Double || prim == BondPrim::Triple,
@@ -167,7 +167,7 @@ pub fn is_rare(bond: &PatBond) -> bool {
     }
 }
 
-// Whether a bond of a graph asks for one kind of bond.
+// True if a bond of a graph asks for one kind of bond: single, double or triple.
 fn is_written(bond: &PatBond) -> bool {
     match bond.expr {
         Expr::Prim(prim) => prim == BondPrim::Single || is_rare(bond),
@@ -175,7 +175,7 @@ fn is_written(bond: &PatBond) -> bool {
     }
 }
 
-// Lays the places as `lay`, and notes of each stop by which other bonds it is joined to those before.
+// As `lay`, but notes for each stop the other bonds that join it to earlier places.
 fn lay_noted(bonds: &[PatBond], start: Placement, stops: &mut [Placement]) -> usize
     ensures { result ≤ length stops.old }
 {
@@ -184,7 +184,7 @@ fn lay_noted(bonds: &[PatBond], start: Placement, stops: &mut [Placement]) -> us
     count
 }
 
-// Notes the same of as many stops.
+// Notes the other bonds that join each of the first `count` stops to earlier places.
 fn note_closing(bonds: &[PatBond], stops: &mut [Placement], count: usize) {
     let mut seen = 0;
     for stop in stops.iter_mut().take(count) {
@@ -193,7 +193,8 @@ fn note_closing(bonds: &[PatBond], stops: &mut [Placement], count: usize) {
     }
 }
 
-// The bond, other than its own, that joins a stop to a place that is seen.
+// The bond, other than its own, that joins a stop to a place in `seen`; `NO_BOND` if there is no such bond,
+// `EVERY_BOND` if there are several.
 fn closing_bond(bonds: &[PatBond], stop: Placement, seen: u64) -> u16 {
     let mut found = NO_BOND;
     for (place, bond) in bonds.iter().enumerate() {
@@ -208,7 +209,7 @@ fn closing_bond(bonds: &[PatBond], stop: Placement, seen: u64) -> u16 {
     found
 }
 
-// Whether a bond joins a place to one that is seen.
+// True if a bond joins a place to one in `seen`.
 fn leads_to(bond: &PatBond, place: u16, seen: u64) -> bool {
     if bond.a == place {
         seen & bit(bond.b) != 0
@@ -217,15 +218,15 @@ fn leads_to(bond: &PatBond, place: u16, seen: u64) -> bool {
     }
 }
 
-// How many placements are laid, and the places of these: a bit for each.
+// The number of placements that are laid, and their places: a bit for each.
 #[derive(Clone, Copy)]
 struct Laid {
     count: usize,
     seen: u64,
 }
 
-// Lays the places of a graph of at most 64 in an order from the start, by its bond first if it has one. Returns how
-// many they are.
+// Lays the places of a graph of at most 64 in an order from the start, along its bond first if it has one. Returns the
+// number of stops.
 fn lay(bonds: &[PatBond], start: Placement, stops: &mut [Placement]) -> usize
     ensures { result ≤ length stops.old }
 {
@@ -259,7 +260,7 @@ fn lay_forth(bonds: &[PatBond], from: usize, stops: &mut [Placement], laid: Laid
     laid
 }
 
-// The same from the last bond down.
+// As `lay_forth`, but from the last bond down.
 fn lay_back(bonds: &[PatBond], stops: &mut [Placement], laid: Laid) -> Laid
     requires { laid.count ≤ length stops.old }
     ensures { result.count ≤ length stops.old }
@@ -290,7 +291,7 @@ fn lay_next(bond: &PatBond, place: usize, stops: &mut [Placement], laid: Laid) -
     }
 }
 
-// The end of a bond that is not seen, where the other is.
+// The end of a bond that is not in `seen`, if the other end is.
 fn next_place(bond: &PatBond, seen: u64) -> Option<u16> {
     let one = seen & bit(bond.a) != 0;
     let other = seen & bit(bond.b) != 0;
@@ -307,7 +308,7 @@ fn bit(place: u16) -> u64 {
     1 << (place % 64)
 }
 
-// Puts a stop at the end, if there is room. The new end.
+// Appends a stop, if there is room. Returns the new number of stops.
 fn put(stops: &mut [Placement], count: usize, stop: Placement) -> usize
     requires { count ≤ length stops.old }
     ensures { result ≤ length stops.old }

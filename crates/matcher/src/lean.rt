@@ -1,6 +1,5 @@
-//! The search for the least embedding in a molecule of at most 64 atoms, where a word has an atom in each bit: those
-//! that are taken, and those at which a place may stand. In larger ones, and from a place of a group on, `search` goes
-//! on.
+//! The search for the least embedding in a molecule of at most 64 atoms. A word has a bit for each atom: those that are
+//! taken, and the candidates of a place. Larger molecules, and the places from one of a group on, are left to `search`.
 ghost use Rattle.std.specs.Prelude.{◌≡◌, ◌≢◌, ◌<◌, ◌≤◌, ◌++◌, ◌∷◌, [], false, length, take, IsTrue};
 ghost use Rattle.std.specs.Int.{bit_at};
 ghost use Rattle.matcher.specs.Candidates.{AreCandidates, IsTrueAt};
@@ -15,9 +14,9 @@ use crate::search::{extend, extend_at};
 use crate::task::Task;
 use smarts_mean::bond_true;
 
-/// Places the graph's atoms, if they can be, as the least embedding.
+/// Places the graph's atoms as the least embedding. Returns false if there is no embedding.
 ///
-/// The calls go as deep as the graph has atoms, at most 256.
+/// The depth of the calls is at most the number of the graph's atoms, at most 256.
 pub fn place_least(
     task: &Task,
     candidates: &Candidates,
@@ -37,7 +36,7 @@ pub fn place_least(
     place_rest(task, candidates, image, choices, 0, 0)
 }
 
-/// The same with the first atom at that one.
+/// As `place_least`, with the first place at `atom`.
 pub fn place_from(
     task: &Task,
     candidates: &Candidates,
@@ -62,8 +61,8 @@ pub fn place_from(
     place_at(task, candidates, image, choices, 0, 0, atom)
 }
 
-// Places the graph's other atoms after those that are placed, which the word has, if they can be, as the least
-// embedding that begins so.
+// Places the graph's other atoms after the first `placed`, which `used` has, as the least embedding that begins so.
+// Returns false if there is no such embedding.
 #[cycle(lean)]
 fn place_rest(
     task: &Task,
@@ -100,7 +99,7 @@ fn place_rest(
     }
 }
 
-// The same where no bond joins the next atom, which is of no group, to an earlier one.
+// As `place_rest`, if no bond joins the next atom, which is of no group, to an earlier one.
 #[cycle(lean)]
 fn place_anywhere(
     task: &Task,
@@ -141,7 +140,7 @@ fn place_anywhere(
     false
 }
 
-// The same where the next atom's first bond joins it to an earlier one: it stands at a neighbour of that one.
+// As `place_rest`, if the next atom's first bond joins it to an earlier one: it is mapped to a neighbour of that one.
 #[cycle(lean)]
 fn place_near(
     task: &Task,
@@ -184,8 +183,8 @@ fn place_near(
     false
 }
 
-// The same with the next atom, which is of no group, at that one, which is not taken. Its first bond to an earlier
-// atom, if it has one, is known to embed.
+// As `place_rest`, with the next atom, which is of no group, at `atom`, which is not taken. Its first bond to an
+// earlier atom, if it has one, is known to embed.
 #[cycle(lean)]
 #[inline(always)]
 fn place_at(

@@ -1,15 +1,14 @@
-//! Where a SMARTS pattern embeds in a molecule (Daylight Theory Manual, chapter SMARTS): the least of its embeddings.
+//! Embeddings of a SMARTS pattern in a molecule (Daylight Theory Manual, chapter SMARTS): the least one, and a test.
 //!
-//! A molecule that has fewer atoms or bonds of a sort than the pattern surely has, or lacks a ring that one of the
-//! pattern's can lie at, is refused at once. Then the pattern's atoms are placed in turn. One that a bond joins to an
-//! earlier one goes along the bonds of the molecule from there; any other goes anywhere. Where any embedding serves,
-//! the first placed is one that few atoms can take, and components of several atoms are first searched for by
-//! themselves. Each expression is asked once at each atom before a graph is searched for. Of a pattern with groups it
-//! is first found out in which components each group can be placed, and whether there are different ones for all. The
-//! number of tries is not bounded.
+//! A molecule is refused at once if it has fewer atoms or bonds of a sort than the pattern surely has, or no ring for
+//! one of the pattern's rings. Then the pattern's atoms are placed in turn. An atom that a bond joins to an earlier one
+//! is placed along the bonds of the molecule from there; any other is tried anywhere. If any embedding serves, the
+//! search begins at an atom with few candidates, and components of several atoms are first searched for by themselves.
+//! Each expression is asked once at each atom before a graph is searched for. For a pattern with groups, the components
+//! in which each group can be placed are found first, and then different ones for all. The number of tries is not
+//! bounded.
 //!
-//! What depends on the pattern alone is worked out once, by `Scratch::prepare`, for searches in any number of
-//! molecules.
+//! `Scratch::prepare` works out all that depends on the pattern alone, once for searches in any number of molecules.
 #![tactic(auto)]
 
 mod answer;

@@ -1,6 +1,6 @@
-//! Fewer candidates of the places of a graph, in a molecule of at most 64 atoms. One that has fewer neighbours among
-//! the candidates of the places next to it than there are such places is no candidate (Ullmann 1976; Solnon 2010).
-//! Where a place has none left, the graph has no embedding.
+//! Fewer candidates of the places of a graph, in a molecule of at most 64 atoms (Ullmann 1976; Solnon 2010). An atom is
+//! no candidate of a place if it has fewer neighbours among the candidates of the neighbouring places than there are
+//! such places. If a place has no candidate left, the graph has no embedding.
 ghost use Rattle.std.specs.Prelude.{◌≡◌, ◌≢◌, ◌<◌, ◌≤◌, ◌↔◌, [], ℕ, bit_and, count_ones, length, slice_index, vec_len, IfSome, IsTrue};
 ghost use Rattle.std.specs.Int.{bit_at};
 ghost use Rattle.smarts_parse.specs.Pattern.{graph_of};
@@ -16,27 +16,27 @@ use crate::task::Task;
 use chem_core::Mol;
 use std::alloc::{AllocError, Global};
 
-/// From as many places of a graph on its candidates are narrowed.
+/// The fewest places of a graph whose candidates are narrowed.
 const MANY_PLACES: usize = 6;
 
-/// How many passes over all places a narrowing has.
+/// The most passes over all places in a narrowing.
 const ROUNDS: usize = 3;
 
-/// How many narrowings in vain, more than twice the others, end them all.
+/// The number of narrowings in vain after which no more is tried; each one that refuses makes up for two.
 const MOST_CREDIT: u8 = 8;
 
-/// Memory for narrowing, and whether it pays for the pattern.
+/// Memory for narrowing, and a count of whether it pays for the pattern.
 #[derive(Debug, Drop)]
 pub struct Narrowing {
     reach: Reach,
-    // for each place what the bonds of the last pass lead to
+    // for each place the places to which the bonds of the last pass lead
     around: Vec<Around>,
-    // 0 where narrowing does not pay: then no more is tried
+    // 0 if narrowing does not pay: then no more is tried
     credit: u8,
     ghost room: { vec_len around ≡ 256 },
 }
 
-/// How far the bonds of a graph reach in a molecule.
+/// The neighbours in a molecule to which bonds of a graph may lead.
 #[derive(Debug, Drop)]
 struct Reach {
     // for each atom its neighbours, and those by ring bonds
@@ -46,7 +46,7 @@ struct Reach {
     ghost ring_near_room: { vec_len ring_near ≡ 64 },
 }
 
-/// As many places, all different, and atoms with all their candidates.
+/// The number of places, all different, and the atoms that have all their candidates.
 #[derive(Clone, Copy, Debug)]
 struct Around {
     count: usize,
@@ -56,18 +56,18 @@ struct Around {
 /// No places.
 const NONE_AROUND: Around = Around { count: 0, atoms: 0 };
 
-// What a pass over the places of a graph did.
+// The result of a pass over the places of a graph.
 #[derive(Clone, Copy)]
 enum Pass {
     // a place has no candidate left
     Refused,
-    // some candidates are taken away
+    // candidates are taken away
     Changed,
-    // none is
+    // no candidate is taken away
     Stable,
 }
 
-// What is left of a word by what is around.
+// The atoms of the word `from` that are left by the places around.
 #[derive(Clone, Copy)]
 struct Narrowed {
     from: u64,
@@ -75,7 +75,7 @@ struct Narrowed {
     kept: u64,
 }
 
-// Nothing of nothing.
+// No atoms of an empty word.
 const NONE_NARROWED: Narrowed = Narrowed {
     from: 0,
     around: NONE_AROUND,
@@ -97,8 +97,8 @@ impl Narrowing {
         self.credit = MOST_CREDIT;
     }
 
-    /// Takes away candidates, if that pays for the pattern. Whether it is found that the graph, of which bonds on rings
-    /// are marked, has no embedding.
+    /// Takes away candidates, if that pays for the pattern. True only if the graph, whose bonds on rings are marked,
+    /// has no embedding.
     pub fn refuse(&mut self, task: &Task, closing: &Closing, candidates: &mut Candidates) -> bool
         requires ready { IsReadyTask task.now }
         requires marks { AreRingMarks (graph_of task.now.graph.now) closing.now.on_ring.items }
@@ -124,8 +124,8 @@ impl Narrowing {
     }
 }
 
-/// Whether candidates are narrowed, if that pays for the pattern: those of many places, in a molecule of at most 64
-/// atoms. Where they are, rings need not be asked for by lengths and classes: narrowing shows more.
+/// True if candidates are narrowed, provided that it pays for the pattern: those of many places, in a molecule of at
+/// most 64 atoms. Then rings need not be tested by lengths and classes, since narrowing shows more.
 pub fn may_narrow(task: &Task) -> bool {
     task.graph.atoms.len() >= MANY_PLACES && task.mol.atoms().len() <= MOST_BITS
 }
@@ -140,7 +140,7 @@ impl Reach {
         })
     }
 
-    // Notes the neighbours of each atom: all, if a bond of the graph is open, and those by ring bonds, if one is on a
+    // Notes the neighbours of each atom: all if a bond of the graph is open, and those by ring bonds if one is on a
     // ring.
     fn note(&mut self, mol: &Mol, closing: &Closing)
         requires few { length mol.now.atoms ≤ 64 }
@@ -151,7 +151,7 @@ impl Reach {
         note_ring_neighbours(mol, closing.has_ring, &mut self.ring_near);
     }
 
-    // Takes away candidates of each place. Whether one has none left.
+    // Takes away candidates of each place. Returns true if a place has no candidate left.
     fn narrow(
         &self,
         task: &Task,
@@ -178,7 +178,7 @@ impl Reach {
         false
     }
 
-    // The same in one pass: by bonds on rings first.
+    // As `narrow`, but in one pass: by bonds on rings first.
     fn narrow_once(
         &self,
         task: &Task,
@@ -222,8 +222,8 @@ fn note_neighbours(mol: &Mol, is_asked: bool, near: &mut [u64])
     }
 }
 
-// Notes for each atom its neighbours by ring bonds, if these are asked for. No branch for each bond: which are ring
-// bonds is hard to foresee.
+// Notes for each atom its neighbours by ring bonds, if these are asked for. It has no branch for each bond, since ring
+// bonds are hard to predict.
 fn note_ring_neighbours(mol: &Mol, is_asked: bool, near: &mut [u64])
     requires atoms { length mol.now.atoms ≤ 64 }
     requires room { length near.old ≡ 64 }
@@ -242,7 +242,7 @@ fn note_ring_neighbours(mol: &Mol, is_asked: bool, near: &mut [u64])
     }
 }
 
-// Notes that an atom has another as its neighbour, if the bit is 1.
+// Notes `other` as a neighbour of `atom`, if `bit` is 1.
 fn join(near: &mut [u64], atom: u16, other: u16, bit: u64)
     requires atom { atom < length near.old }
     requires other { other < 64 }
@@ -253,7 +253,7 @@ fn join(near: &mut [u64], atom: u16, other: u16, bit: u64)
     near[usize::from(atom)] |= bit << other;
 }
 
-// Takes away candidates of each place by marked bonds, if there are some.
+// Takes away candidates of each place by marked bonds, if there are any.
 fn narrow_all(
     task: &Task,
     marks: Option<&[bool]>,
@@ -278,7 +278,7 @@ fn narrow_all(
     narrow_words(task, near, around, words)
 }
 
-// Takes away candidates of each place by what is around it.
+// Takes away candidates of each place by the places around it.
 fn narrow_words(task: &Task, near: &[u64], around: &[Around], words: &mut [u64]) -> Pass
     requires ready { IsReadyTask task.now }
     requires room { length words.old ≡ MOST_WORDS }
@@ -304,7 +304,7 @@ fn narrow_words(task: &Task, near: &[u64], around: &[Around], words: &mut [u64])
     if changed { Pass::Changed } else { Pass::Stable }
 }
 
-// What is left of a word by what is around, which often is as it was for the place before.
+// The atoms of the word `from` that are left by the places around, often as for the place before.
 fn narrow_word(near: &[u64], from: u64, around: Around, last: Narrowed) -> Narrowed
     requires room { length near.now ≡ 64 }
     requires last { IsNarrowed near.now last.from last.around.count last.around.atoms last.kept }
@@ -321,7 +321,7 @@ fn narrow_word(near: &[u64], from: u64, around: Around, last: Narrowed) -> Narro
     }
 }
 
-// Whether the word and what is around are as before.
+// True if the word and the places around are as before.
 fn is_again(last: Narrowed, from: u64, around: Around) -> bool
     ensures from { IsTrue result → last.from ≡ from }
     ensures count { IsTrue result → last.around.count ≡ around.count }
@@ -330,7 +330,7 @@ fn is_again(last: Narrowed, from: u64, around: Around) -> bool
     last.from == from && last.around.count == around.count && last.around.atoms == around.atoms
 }
 
-// Finds for each place those to which marked bonds lead from it.
+// Finds for each place the places to which marked bonds lead from it.
 fn gather(task: &Task, marks: &[bool], near: &[u64], words: &[u64], around: &mut [Around])
     requires ready { IsReadyTask task.now }
     requires room { length words.now ≡ MOST_WORDS }
@@ -368,7 +368,7 @@ fn lead(around: &mut [Around], words: &[u64], from: u16, to: u16)
     };
 }
 
-// Those atoms in the word that have as many neighbours around.
+// The atoms in the word that have at least `around.count` neighbours in `around.atoms`.
 fn with_neighbours(near: &[u64], from: u64, around: Around) -> u64
     requires room { length near.now ≡ 64 }
     ensures kept { (a : ℕ) → a < 64 → bit_at from a ≡ 1
@@ -392,7 +392,7 @@ fn with_neighbours(near: &[u64], from: u64, around: Around) -> u64
     kept
 }
 
-// Whether the word has as many ones.
+// True if the word has at least `count` ones.
 fn has_ones(word: u64, count: usize) -> bool
     ensures { IsTrue result ↔ count ≤ count_ones word }
 {

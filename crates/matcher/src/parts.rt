@@ -1,6 +1,6 @@
-//! At which atoms the recursive parts of a pattern hold. A part names parts of smaller numbers alone, so they are
-//! searched for in the order of their numbers. A part is asked only at atoms of the classes that are wanted of it; what
-//! the table says of others is of no account.
+//! The atoms at which the recursive parts of a pattern hold. A part names parts of smaller numbers alone, so they are
+//! searched for in the order of their numbers. A part is asked only at atoms of the classes that are wanted of it. The
+//! table's bits for other atoms have no meaning.
 ghost use Rattle.std.specs.Prelude.{◌≡◌, ◌<◌, ◌≤◌, ◌+◌, ◌∷◌, ◌↔◌, [], ℕ, length, map, IsTrue};
 ghost use Rattle.smarts_mean.specs.Table.{HoldsIn};
 ghost use Rattle.smarts_parse.specs.Pattern.{graph_of, pattern_of};
@@ -21,7 +21,8 @@ use crate::task::Task;
 use chem_core::Mol;
 use smarts_parse::{Graph, Pattern};
 
-/// Notes in the table at which of the atoms where it is asked each of the first parts holds.
+/// Notes in the table, for each of the first `count` parts, the atoms at which it holds, among those at which it is
+/// asked.
 pub fn note_parts(
     pattern: &Pattern,
     prepared: &Prepared,
@@ -40,7 +41,7 @@ pub fn note_parts(
     }
 }
 
-// The same for one part, where those of smaller numbers are noted.
+// As `note_parts`, but for one part, if those of smaller numbers are noted.
 fn note_part(pattern: &Pattern, prepared: &Prepared, mol: &Mol, memory: &mut Memory, part: usize)
     requires sound { IsSoundPattern (pattern_of pattern.now) }
     requires prepared { IsPrepared (pattern_of pattern.now) prepared.now }
@@ -66,7 +67,7 @@ fn note_part(pattern: &Pattern, prepared: &Prepared, mol: &Mol, memory: &mut Mem
     }
 }
 
-// At which atoms of a block some embedding of the graph begins. Atoms of other classes than these are not asked.
+// The atoms of a block at which an embedding of the graph begins. Atoms of other classes than `classes` are not asked.
 fn begins_in(
     graph: &Graph,
     steps: &[EarlierBonds],
@@ -118,7 +119,7 @@ fn begins_in(
     held
 }
 
-// Whether some embedding of the graph has that atom, a candidate, as its first.
+// True if an embedding of the graph begins at `atom`, a candidate of the first place.
 fn begins_at(
     graph: &Graph,
     steps: &[EarlierBonds],

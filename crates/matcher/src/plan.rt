@@ -1,5 +1,5 @@
-//! Steps: for each atom of a graph where its bonds to earlier atoms stand, so that they are found at once, of what
-//! classes it may be, and whether its expression is that of the atom before it.
+//! Steps: for each atom of a graph the range of its bonds to earlier atoms, so that they are found at once. A step also
+//! has the classes of the atom, and whether its expression is that of the atom before it.
 ghost use Rattle.std.specs.Prelude.{◌≡◌, ◌≢◌, ◌+◌, ◌-◌, ◌<◌, ◌≤◌, drop, length, take, IsTrue};
 ghost use Rattle.smarts_parse.specs.Pattern.{graph_of, term_of};
 ghost use Rattle.matcher.specs.Partial.{IsSearchable};
@@ -8,15 +8,15 @@ ghost use Rattle.matcher.specs.Plan.{IsReady, IsRepeat};
 use crate::class::classes_of;
 use smarts_parse::{AtomPrim, Expr, Graph, PatBond};
 
-/// Where an atom's bonds to earlier atoms stand among the bonds of a graph: none before `from`, none from `to` on.
-/// Bonds of other atoms may stand between them. It is empty where the atom has none.
+/// The range of an atom's bonds to earlier atoms among the bonds of a graph: no such bond is before `from`, or at `to`
+/// or after it. Bonds of other atoms may be between them. It is empty if the atom has no such bond.
 #[derive(Clone, Copy, Debug)]
 pub struct EarlierBonds {
     pub from: usize,
     pub to: usize,
-    /// The classes of the atoms at which the atom may stand.
+    /// The classes of the atoms to which the atom may be mapped.
     pub classes: u64,
-    /// Whether the atom's expression is that of the atom before it, as far as is seen at once.
+    /// True only if the atom's expression is that of the atom before it.
     pub again: bool,
 }
 
@@ -78,7 +78,7 @@ pub fn plan(graph: &Graph, steps: &mut [EarlierBonds])
     }
 }
 
-// Whether an atom's expression is that of the atom before it, as far as is seen at once.
+// True if the expressions of an atom and of the atom before it are the same primitive.
 fn is_repeat(graph: &Graph, atom: usize) -> bool
     requires { atom < length graph.now.atoms.items }
     ensures { IsTrue result → IsRepeat (graph_of graph.now).atoms atom }
@@ -89,7 +89,7 @@ fn is_repeat(graph: &Graph, atom: usize) -> bool
     is_same(&graph.atoms[atom - 1], &graph.atoms[atom])
 }
 
-// Whether the expressions are the same, as far as is seen at once.
+// True if both expressions are the same primitive.
 fn is_same(one: &Expr<AtomPrim>, two: &Expr<AtomPrim>) -> bool
     ensures { IsTrue result → term_of one.now ≡ term_of two.now }
 {
@@ -102,7 +102,7 @@ fn is_same(one: &Expr<AtomPrim>, two: &Expr<AtomPrim>) -> bool
     *left == *right
 }
 
-/// Whether an atom other than the first has no bond to an earlier one.
+/// True if an atom other than the first has no bond to an earlier one.
 pub fn is_loose(steps: &[EarlierBonds]) -> bool {
     for step in steps.iter().skip(1) {
         if step.from >= step.to {

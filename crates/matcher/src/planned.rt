@@ -10,15 +10,15 @@ use smarts_mean::MOST_PARTS;
 use smarts_parse::{Graph, Pattern};
 use std::alloc::{AllocError, Global};
 
-/// The most atoms of a pattern, those of its recursive parts counted too.
+/// The most atoms of a pattern, with those of its recursive parts.
 pub const MOST_PLACES: usize = 256;
 
 /// The steps of the graphs of a pattern.
 #[derive(Debug, Drop)]
 pub struct Plans {
-    // those of the top graph, and behind them those of each recursive part
+    // those of the top graph, then those of each recursive part
     steps: Vec<EarlierBonds>,
-    // where those of each part begin
+    // the place of the first step of each part
     begins: Vec<usize>,
     ghost steps_room: { vec_len steps ≡ 256 },
     ghost begins_room: { vec_len begins ≡ 64 },
@@ -65,7 +65,7 @@ impl Plans {
         self.steps_at(&pattern.recs[part], begin)
     }
 
-    // The steps of a graph, which stand from a place on.
+    // The steps of a graph, from place `begin` on.
     fn steps_at(&self, graph: &Graph, begin: usize) -> &[EarlierBonds]
         requires { StandsAt (graph_of graph.now) self.now.steps.items begin }
         ensures { IsReady (graph_of graph.now) result.now }
@@ -74,7 +74,7 @@ impl Plans {
     }
 }
 
-// Finds the steps of the top graph and of each part in turn, and where those of each part begin.
+// Finds the steps of the top graph and of each part in turn, and the place of the first step of each part.
 fn plan_all(pattern: &Pattern, steps: &mut [EarlierBonds], begins: &mut [usize])
     requires sound { IsSoundPattern (pattern_of pattern.now) }
     requires room { length steps.old ≡ 256 }
@@ -90,7 +90,7 @@ fn plan_all(pattern: &Pattern, steps: &mut [EarlierBonds], begins: &mut [usize])
     }
 }
 
-// Finds the steps of a graph, from a place on. Where they end.
+// Finds the steps of a graph, from place `begin` on. Returns their end.
 fn plan_at(graph: &Graph, steps: &mut [EarlierBonds], begin: usize) -> usize
     requires searchable { IsSearchable (graph_of graph.now) }
     requires room { begin + length graph.now.atoms.items ≤ length steps.old }

@@ -1,6 +1,6 @@
-//! What is worked out of a pattern alone, once for searches in any number of molecules: the steps of its graphs, the
-//! atoms at which its recursive parts are asked, an order for the search, and the bonds that close
-//! rings or lie on them.
+//! The data that depend on a pattern alone, worked out once for searches in any number of molecules. They are the steps
+//! of its graphs, the atoms at which recursive parts are asked, a search order, and the bonds that close rings or lie
+//! on them.
 ghost use Rattle.std.specs.Prelude.{IfSome};
 ghost use Rattle.smarts_parse.specs.Pattern.{pattern_of};
 ghost use Rattle.matcher.specs.Prepared.{IsOnlyPart};
@@ -14,10 +14,10 @@ use chem_core::{SORT_ROOM, SortCounts};
 use smarts_parse::{AtomPrim, Expr, Pattern};
 use std::alloc::{AllocError, Global};
 
-/// What is worked out of a pattern alone.
+/// The data that depend on a pattern alone.
 #[derive(Debug, Drop)]
 pub struct Prepared {
-    /// The counts that no molecule lacks in which the pattern embeds.
+    /// Counts of sorts that each molecule reaches in which the pattern embeds.
     pub asked: SortCounts,
     pub plans: Plans,
     pub wanted: Wanted,
@@ -46,7 +46,7 @@ impl Prepared {
         })
     }
 
-    /// Works it out.
+    /// Works out the data of a pattern.
     pub fn prepare(&mut self, pattern: &Pattern)
         requires { IsSoundPattern (pattern_of pattern.now) }
         ensures { IsPrepared (pattern_of pattern.now) self.new }

@@ -1,4 +1,4 @@
-//! Why the atoms of a graph that are left cannot be placed: some of them can stand only at fewer atoms than they are.
+//! Tests that show that the places left of a graph cannot be mapped: k of them have fewer than k candidates together.
 ghost use Rattle.std.specs.Prelude.{◌≡◌, ◌<◌, ◌≤◌, ◌++◌, [], ℕ, List, false, true, count_by, length, max, slice_index, slice_index_or, IsTrue};
 ghost use Rattle.chem_core.specs.Graph.{JoinsAt};
 ghost use Rattle.chem_core.specs.Molecule.{ends_of};
@@ -21,8 +21,8 @@ use chem_core::{Atom, Mol};
 use smarts_mean::bond_true;
 use smarts_parse::{PatBond, Pattern};
 
-/// Whether an atom of the pattern's top graph, of which the steps are given, may stand at no atom of the molecule, as
-/// far as classes show. The molecule keeps the classes of its atoms, so this costs a few steps.
+/// True only if an atom of the pattern's top graph, with these steps, can be mapped to no atom of the molecule, by
+/// classes. The molecule keeps the classes of its atoms, so this costs a few steps.
 pub fn lacks_atom(pattern: &Pattern, steps: &[EarlierBonds], mol: &Mol) -> bool
     requires { IsReady (graph_of pattern.now.top) steps.now }
     ensures { IsTrue result → ¬ Matches (pattern_of pattern.now) mol.now }
@@ -36,8 +36,8 @@ pub fn lacks_atom(pattern: &Pattern, steps: &[EarlierBonds], mol: &Mol) -> bool
     false
 }
 
-/// Whether the places of a graph that are marked are more than the atoms that are marked, and can stand, where the
-/// atoms in front are taken, at these alone. Then the graph cannot be completed.
+/// True only if the marked places are more than the marked atoms, and can be mapped to no others after `front`. Then no
+/// embedding extends `front`.
 pub fn excludes(
     task: &Task,
     candidates: &Candidates,
@@ -65,8 +65,8 @@ pub fn excludes(
     true
 }
 
-/// The same of components: whether the places that are marked, each the first of a group, are more than the components
-/// that are marked, by their least atoms, and can stand in these alone. Then the graph cannot be completed.
+/// As `excludes`, for components: more marked places, each the first of a group, than marked components, by their least
+/// atoms, and the groups fit no other.
 pub fn excludes_groups(
     task: &Task,
     candidates: &Candidates,
@@ -97,8 +97,8 @@ pub fn excludes_groups(
     true
 }
 
-/// Whether the places that may stand only at atoms of the first one's classes are more than the atoms of these classes.
-/// Then the graph has no embedding.
+/// True if the places whose classes are all among those of the first are more than the atoms of these classes. Then the
+/// graph has no embedding.
 pub fn is_crowded(task: &Task) -> bool
     requires ready { IsReadyTask task.now }
     requires some { 0 < length task.now.graph.now.atoms.items }
@@ -112,7 +112,7 @@ pub fn is_crowded(task: &Task) -> bool
     true
 }
 
-/// How many of the steps have no classes but these.
+/// The number of steps that have no classes but these.
 pub fn places_within(steps: &[EarlierBonds], classes: u64) -> usize
     ensures { result ≡ count_by (is_within classes) steps.now }
 {
@@ -125,7 +125,7 @@ pub fn places_within(steps: &[EarlierBonds], classes: u64) -> usize
     count
 }
 
-// How many of the atoms are of the classes.
+// The number of atoms of these classes.
 fn atoms_within(atoms: &[Atom], classes: u64) -> usize
     ensures { result ≡ count_by (is_among classes) atoms.now }
 {
@@ -138,14 +138,14 @@ fn atoms_within(atoms: &[Atom], classes: u64) -> usize
     count
 }
 
-// How many are marked.
+// The number of marks that are set.
 fn marked(marks: &[bool]) -> usize
     ensures { result ≡ count_by (λ mark. mark) marks.now }
 {
     marks.iter().filter(|mark| **mark).count()
 }
 
-// Whether the place, which is not in front, can stand only at marked atoms or where those in front stand.
+// True only if each embedding that extends `front` maps the place, which is not in `front`, to a marked atom.
 fn stays_within(
     task: &Task,
     candidates: &Candidates,
@@ -175,7 +175,7 @@ fn stays_within(
     true
 }
 
-// Whether the place, which is not in front, can stand only in marked components.
+// True only if each embedding that extends `front` maps the place, which is not in `front`, into a marked component.
 fn stays_in(
     task: &Task,
     candidates: &Candidates,
@@ -204,7 +204,7 @@ fn stays_in(
     true
 }
 
-/// Whether a bond of the graph may lie at some bond with both its ends. If not, the graph has no embedding.
+/// False only if no bond of the molecule fits a bond of the graph with both its ends. Then the graph has no embedding.
 pub fn has_bond(task: &Task, candidates: &Candidates, place: usize) -> bool
     requires ready { IsReadyTask task.now }
     requires place { place < length task.now.graph.now.bonds.items }
@@ -220,7 +220,7 @@ pub fn has_bond(task: &Task, candidates: &Candidates, place: usize) -> bool
     false
 }
 
-// Whether a bond of the graph may lie at a bond with both its ends.
+// False only if the bond `other` of the molecule does not fit a bond of the graph with both its ends.
 fn may_lie(task: &Task, candidates: &Candidates, bond: &PatBond, other: u16) -> bool
     requires ready { IsReadyTask task.now }
     requires ends { max bond.now.a bond.now.b < length task.now.graph.now.atoms.items }
@@ -240,7 +240,7 @@ fn may_lie(task: &Task, candidates: &Candidates, bond: &PatBond, other: u16) -> 
     may_join(task, candidates, bond, found.b, found.a)
 }
 
-// Whether the ends of a bond of the graph may stand at two atoms.
+// False only if the ends of a bond of the graph cannot be mapped to the atoms `one` and `two`.
 fn may_join(task: &Task, candidates: &Candidates, bond: &PatBond, one: u16, two: u16) -> bool
     requires ready { IsReadyTask task.now }
     requires ends { max bond.now.a bond.now.b < length task.now.graph.now.atoms.items }
@@ -256,8 +256,8 @@ fn may_join(task: &Task, candidates: &Candidates, bond: &PatBond, one: u16, two:
     may_stand(task, candidates, &[], usize::from(bond.b), two)
 }
 
-/// Whether a place that is not in front may stand at an atom, where the atoms in front are taken, as far as is seen
-/// from the atom alone.
+/// False only if no embedding that extends `front` maps the place, which is not in `front`, to `atom`, as far as the
+/// atom alone shows.
 pub fn may_stand(
     task: &Task,
     candidates: &Candidates,

@@ -1,5 +1,5 @@
-//! Rings of a graph. An embedding takes each to a ring of the molecule, so its atoms stand where the smallest ring is
-//! no longer. A ring is found as a bond between two places and a way between them along first bonds.
+//! Rings of a graph. An embedding maps each ring to a ring of the molecule, so the smallest rings of its atoms are no
+//! longer than it. A ring is found as a bond between two places and a way between them along first bonds.
 ghost use Rattle.std.specs.Prelude.{◌≡◌, ◌≢◌, ◌<◌, ◌≤◌, ◌+◌, [], ℕ, List, false, length, slice_index, slice_index_or, vec_len, Contains, IfSome, IsTrue};
 ghost use Rattle.chem_core.specs.Graph.{IsSimpleCycle, JoinsAt};
 ghost use Rattle.chem_core.specs.Molecule.{ends_of};
@@ -21,13 +21,13 @@ use std::alloc::{AllocError, Global};
 pub struct Closing {
     bonds: Vec<u16>,
     count: usize,
-    // for each bond of the graph whether it is known to lie on a ring of the graph
+    // for each bond of the graph, true if it is known to lie on a ring of the graph
     on_ring: Vec<bool>,
     // `true` for each bond
     all: Vec<bool>,
-    /// Whether some bond of the graph is known to lie on a ring.
+    /// True if a bond of the graph is known to lie on a ring.
     pub has_ring: bool,
-    /// Whether some bond is not known to.
+    /// True if a bond of the graph is not known to lie on a ring.
     pub has_open: bool,
     ghost room: { count ≤ vec_len bonds },
 }
@@ -62,7 +62,7 @@ impl Closing {
         &self.bonds[..self.count]
     }
 
-    /// The marks of those bonds that are known to lie on rings, if some are.
+    /// The marks of the bonds that are known to lie on rings; `None` if no bond is.
     pub fn rings(&self) -> Option<&[bool]>
         ensures { IfSome result (λ marks. IsTrue self.now.has_ring × (marks.now ≡ self.now.on_ring.items)) }
     {
@@ -73,7 +73,7 @@ impl Closing {
         }
     }
 
-    /// Marks of all bonds, if some are not known to lie on rings.
+    /// Marks of all bonds; `None` if all are known to lie on rings.
     pub fn all(&self) -> Option<&[bool]>
         ensures { IfSome result (λ marks. IsTrue self.now.has_open) }
     {
@@ -81,7 +81,7 @@ impl Closing {
     }
 }
 
-// Finds the bonds that lead to an earlier place as others before them do. How many they are.
+// Finds the bonds that are not the first from their higher end to an earlier place. Returns the number of them.
 fn find_closing(bonds: &[PatBond], steps: &[EarlierBonds], found: &mut [u16]) -> usize
     ensures { result ≤ length found.old }
 {
@@ -94,7 +94,7 @@ fn find_closing(bonds: &[PatBond], steps: &[EarlierBonds], found: &mut [u16]) ->
     count
 }
 
-// Whether a bond is the first that leads to an earlier place from its place.
+// True if a bond is the first from its higher end to an earlier place.
 fn is_first(bond: &PatBond, place: usize, steps: &[EarlierBonds]) -> bool {
     match steps.get(usize::from(bond.a.max(bond.b))) {
         Some(step) => step.from == place,
@@ -102,7 +102,7 @@ fn is_first(bond: &PatBond, place: usize, steps: &[EarlierBonds]) -> bool {
     }
 }
 
-// Puts a bond at the end, if there is room. The new end.
+// Appends a bond, if there is room. Returns the new number of bonds.
 fn put(found: &mut [u16], count: usize, bond: usize) -> usize
     requires { count ≤ length found.old }
     ensures { result ≤ length found.old }
@@ -116,8 +116,8 @@ fn put(found: &mut [u16], count: usize, bond: usize) -> usize
     }
 }
 
-/// Whether a ring of the graph that one of these bonds closes can lie at no ring of the molecule, as far as lengths and
-/// classes show.
+/// True only if a ring of the graph that one of these bonds closes fits no ring of the molecule, by lengths and
+/// classes.
 pub fn lacks_ring(task: &Task, closing: &[u16]) -> bool
     requires { IsReadyTask task.now }
     ensures { IsTrue result → ¬ Completes task.now [] }
@@ -131,7 +131,7 @@ pub fn lacks_ring(task: &Task, closing: &[u16]) -> bool
     false
 }
 
-// The same of the ring that a bond closes, if it closes one.
+// As `lacks_ring`, but of the ring that a bond closes, if it closes one.
 fn lacks_closed(task: &Task, place: usize) -> bool
     requires ready { IsReadyTask task.now }
     requires place { place < length task.now.graph.now.bonds.items }
@@ -184,7 +184,8 @@ fn mark_closed(graph: &Graph, steps: &[EarlierBonds], marks: &mut [bool], place:
     }
 }
 
-// Marks the first bonds from one place down to a lower one, if they lead there and are two at least, with those above.
+// Marks the first bonds on the way from a place down to a lower one, if they lead there. With `above` they must be two
+// at least.
 fn mark_way(
     graph: &Graph,
     steps: &[EarlierBonds],
@@ -222,7 +223,7 @@ fn mark(marks: &mut [bool], place: usize)
     }
 }
 
-// Whether some bond of the graph is marked.
+// True if a bond of the graph is marked.
 fn has_mark(graph: &Graph, marks: &[bool]) -> bool {
     for index in 0..graph.bonds.len() {
         if is_marked(marks, index) {
@@ -232,7 +233,7 @@ fn has_mark(graph: &Graph, marks: &[bool]) -> bool {
     false
 }
 
-// Whether all are.
+// True if all bonds of the graph are marked.
 fn has_all(graph: &Graph, marks: &[bool]) -> bool {
     for index in 0..graph.bonds.len() {
         if !is_marked(marks, index) {
@@ -242,7 +243,7 @@ fn has_all(graph: &Graph, marks: &[bool]) -> bool {
     true
 }
 
-/// Whether the bond is marked.
+/// True if the bond is marked.
 pub fn is_marked(marks: &[bool], index: usize) -> bool
     ensures { result ≡ slice_index_or marks.now index false }
 {
@@ -252,7 +253,7 @@ pub fn is_marked(marks: &[bool], index: usize) -> bool
     }
 }
 
-// How many bonds a way from one place to a lower one has, along first bonds.
+// The number of bonds on the way from a place to a lower one along first bonds; `None` if these do not lead there.
 fn way_down(graph: &Graph, steps: &[EarlierBonds], from: usize, to: usize) -> Option<usize>
     requires ready { IsReady (graph_of graph.now) steps.now }
     requires from { from < length graph.now.atoms.items }
@@ -268,7 +269,7 @@ fn way_down(graph: &Graph, steps: &[EarlierBonds], from: usize, to: usize) -> Op
     Some(links + 1)
 }
 
-// The place to which the first bond of one leads, if it has one.
+// The earlier place to which the first bond of a place leads, if it has one.
 fn place_below(graph: &Graph, steps: &[EarlierBonds], place: usize) -> Option<usize>
     requires ready { IsReady (graph_of graph.now) steps.now }
     requires place { place < length graph.now.atoms.items }
@@ -284,8 +285,7 @@ fn place_below(graph: &Graph, steps: &[EarlierBonds], place: usize) -> Option<us
     Some(usize::from(bond.a.min(bond.b)))
 }
 
-// Whether an atom where the place may stand, as far as classes show, has a smallest ring of no more bonds than one more
-// than these.
+// False only if no atom that the place may be mapped to, by classes, has a smallest ring of at most `links + 1` bonds.
 fn has_ring_atom(task: &Task, place: usize, links: usize) -> bool
     requires ready { IsReadyTask task.now }
     requires place { place < length task.now.graph.now.atoms.items }

@@ -1,4 +1,4 @@
-//! The memory that a search uses, and what is worked out of its pattern.
+//! The memory that a search uses, and the data that depend on its pattern.
 ghost use Rattle.std.specs.Prelude.{◌≤◌, vec_len};
 
 use crate::candidates::Candidates;
@@ -19,10 +19,10 @@ pub struct Scratch {
     pub(crate) memory: Memory,
 }
 
-/// What a search in a molecule writes.
+/// The memory that a search in a molecule writes.
 #[derive(Debug, Drop)]
 pub struct Memory {
-    // where the atoms of a graph are placed, by their numbers
+    // the atoms to which the places of a graph are mapped
     pub image: Vec<u16>,
     pub table: RecTable,
     pub choices: Choices,
@@ -45,7 +45,7 @@ impl Scratch {
         })
     }
 
-    /// Works out what depends on the pattern alone, for searches in any number of molecules. Takes no memory.
+    /// Works out the data that depend on the pattern alone, for searches in any number of molecules. Takes no memory.
     pub fn prepare(&mut self, pattern: &Pattern)
         requires { IsSoundPattern (pattern_of pattern.now) }
         ensures { IsPreparedFor (pattern_of pattern.now) self.new }

@@ -1,4 +1,5 @@
-//! The atoms of a graph are placed in turn, lowest places first, so that the first embedding found is the least.
+//! The places of a graph are mapped in turn, each to the lowest atoms first, so that the first embedding found is the
+//! least.
 ghost use Rattle.std.specs.Prelude.{◌≡◌, ◌<◌, ◌≤◌, ◌+◌, ◌++◌, ◌∷◌, [], false, length, take, IsTrue};
 ghost use Rattle.matcher.specs.Candidates.{AreCandidates, IsTrueAt};
 ghost use Rattle.matcher.specs.Task.{Completes, FirstEmbeds, IsBonded, IsLeastPlaced, IsPlaced, IsReadyTask};
@@ -9,9 +10,10 @@ use crate::fit::fits;
 use crate::task::Task;
 use smarts_mean::bond_true;
 
-/// Places the graph's other atoms after those that are placed, if they can be, as the least embedding that begins so.
+/// Places the graph's other atoms after the first `placed`, as the least embedding that begins so. Returns false if
+/// there is no such embedding.
 ///
-/// The calls go as deep as the graph has atoms, at most 256.
+/// The depth of the calls is at most the number of the graph's atoms, at most 256.
 #[cycle(search)]
 pub fn extend(
     task: &Task,
@@ -41,7 +43,7 @@ pub fn extend(
     }
 }
 
-// The same where no bond joins the next atom to an earlier one.
+// As `extend`, if no bond joins the next atom to an earlier one.
 #[cycle(search)]
 fn extend_anywhere(
     task: &Task,
@@ -77,7 +79,7 @@ fn extend_anywhere(
     false
 }
 
-// The same where the next atom's first bond joins it to an earlier one: it stands at a neighbour of that one.
+// As `extend`, if the next atom's first bond joins it to an earlier one: it is mapped to a neighbour of that one.
 #[cycle(search)]
 fn extend_near(
     task: &Task,
@@ -114,7 +116,7 @@ fn extend_near(
     false
 }
 
-/// The same with the next atom at that one. Its first bond to an earlier atom, if it has one, is known to embed.
+/// As `extend`, with the next atom at `atom`. Its first bond to an earlier atom, if it has one, is known to embed.
 #[cycle(search)]
 pub fn extend_at(
     task: &Task,

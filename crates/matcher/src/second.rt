@@ -1,5 +1,5 @@
-//! Fewer atoms at which a search for a graph begins, in a molecule of at most 64 atoms: those from which the first bond
-//! of its second place may lead on. For a graph of two places and one bond these are the answer.
+//! Fewer atoms at which a search for a graph begins, in a molecule of at most 64 atoms. They are those from which the
+//! first bond of its second place may lead on. For a graph of two places and one bond these are the answer.
 ghost use Rattle.std.specs.Prelude.{◌≡◌, ◌<◌, ◌≤◌, ◌+◌, ◌*◌, ◌∷◌, ◌↔◌, ◌⊎◌, [], ℕ, length, slice_index, IfSome, IsTrue};
 ghost use Rattle.std.specs.Int.{bit_at};
 ghost use Rattle.chem_core.specs.Graph.{JoinsAt};
@@ -15,11 +15,11 @@ use chem_core::Mol;
 use smarts_mean::bond_true;
 use smarts_parse::{Graph, PatBond};
 
-/// From as many atoms on it pays.
+/// The fewest atoms for which it pays.
 const MANY_ATOMS: u32 = 8;
 
-/// Those atoms of a word for a block, of candidates of the first place, from which the first bond of the second place
-/// may lead to a candidate of that one. Where it does not pay, all of them.
+/// The atoms of `all`, candidates of the first place in a block, from which the first bond of the second place may lead
+/// to a candidate of that place. Returns `all` if the work does not pay.
 pub fn with_second(task: &Task, candidates: &Candidates, block: usize, all: u64) -> u64
     requires ready { IsReadyTask task.now }
     requires some { 1 < length task.now.graph.now.atoms.items }
@@ -39,8 +39,8 @@ pub fn with_second(task: &Task, candidates: &Candidates, block: usize, all: u64)
     all & leading_to(bond, task.mol, candidates.words[1])
 }
 
-/// Those atoms of a word for a block, of candidates of the first place, at which an embedding of the graph begins, if
-/// this is of two places and one bond. `None` for other graphs, for larger molecules, and where the word is empty.
+/// The atoms of `all`, candidates of the first place in a block, at which an embedding begins, for a graph of two
+/// places and one bond. `None` for other graphs, for larger molecules, and if `all` is empty.
 pub fn with_pair(task: &Task, candidates: &Candidates, block: usize, all: u64) -> Option<u64>
     requires ready { IsReadyTask task.now }
     requires truths { AreTruths task.now candidates.now.words.items }
@@ -62,7 +62,7 @@ pub fn with_pair(task: &Task, candidates: &Candidates, block: usize, all: u64) -
     Some(all & leading_to(bond, task.mol, candidates.words[1]))
 }
 
-// Whether the graph is of two places and one bond, and both are of one group or of none.
+// True if the graph is of two places and one bond, and both places are of one group or of no group.
 fn is_pair(graph: &Graph) -> bool
     requires { length graph.now.groups.items ≡ length graph.now.atoms.items }
     ensures two { IsTrue result → length graph.now.atoms.items ≡ 2 }
@@ -76,7 +76,7 @@ fn is_pair(graph: &Graph) -> bool
     graph.groups[0] == graph.groups[1]
 }
 
-// The atoms that a bond, at which that of the graph is true, joins to one of a word.
+// The atoms that a bond joins to one of the word `second`, if the graph's bond is true at it.
 fn leading_to(bond: &PatBond, mol: &Mol, second: u64) -> u64
     requires { length mol.now.atoms ≤ 64 }
     ensures all { (b x y : ℕ) → JoinsAt (ends_of mol.now) b x y
@@ -97,7 +97,7 @@ fn leading_to(bond: &PatBond, mol: &Mol, second: u64) -> u64
     found
 }
 
-// The atoms that are found, and one end of a bond if the other is in a word.
+// The word `found`, with the atom `one` too if `other` is in the word `second`.
 fn with_end(found: u64, second: u64, one: u16, other: u16) -> u64
     requires one { one < 64 }
     requires other { other < 64 }

@@ -1,11 +1,11 @@
-//! What a search is about: a graph, and the molecule in which it is placed.
+//! The subject of a search: a graph, and the molecule in which it is placed.
 
 use crate::plan::EarlierBonds;
 use chem_core::Mol;
 use smarts_mean::RecTable;
 use smarts_parse::Graph;
 
-/// A graph to be placed in a molecule, where recursive parts hold as the table says.
+/// A graph to be placed in a molecule. The table says at which atoms recursive parts hold.
 #[derive(Clone, Copy)]
 pub struct Task<'a> {
     pub graph: &'a Graph,

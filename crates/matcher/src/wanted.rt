@@ -1,5 +1,5 @@
-//! At which atoms each recursive part of a pattern is asked: those where an expression that names it may be true, as
-//! far as classes show. Elsewhere no such expression is true, whether the part holds there or not.
+//! The atoms at which each recursive part of a pattern is asked: those at which an expression that names it may be
+//! true, by classes. At other atoms no such expression is true, whether the part holds there or not.
 ghost use Rattle.std.specs.Prelude.{◌≡◌, ◌<◌, ◌≤◌, length, slice_index, vec_len, All};
 ghost use Rattle.smarts_parse.specs.Pattern.{graph_of, pattern_of, term_of};
 ghost use Rattle.smarts_parse.specs.Sound.{IsSoundPattern, NamesBelow, PrimNamesBelow};
@@ -49,7 +49,7 @@ fn clear(wanted: &mut [u64]) {
     }
 }
 
-// Adds what the graphs of a pattern want.
+// Adds the classes that the graphs of a pattern want.
 fn want_all(pattern: &Pattern, wanted: &mut [u64])
     requires sound { IsSoundPattern (pattern_of pattern.now) }
     requires room { length wanted.old ≡ 64 }
@@ -61,7 +61,8 @@ fn want_all(pattern: &Pattern, wanted: &mut [u64])
     }
 }
 
-// Adds what the expressions of a graph want: each that names a part wants it asked where it may be true.
+// Adds the classes that the expressions of a graph want: those at which an expression may be true, for each part that
+// it names.
 fn want_graph(graph: &Graph, wanted: &mut [u64])
     requires names { All (NamesBelow 64) (graph_of graph.now).atoms }
     requires room { length wanted.old ≡ 64 }
@@ -95,7 +96,7 @@ fn want(expr: &Expr<AtomPrim>, classes: u64, wanted: &mut [u64])
     }
 }
 
-// The same of a primitive.
+// As `want`, but of a primitive.
 fn want_named(prim: AtomPrim, classes: u64, wanted: &mut [u64])
     requires names { PrimNamesBelow 64 prim }
     requires room { length wanted.old ≡ 64 }

@@ -1,4 +1,4 @@
--- The molecule that a sketch means, once it is known which of its atoms and bonds are aromatic. For callers.
+-- The molecule of a sketch with known aromatic atoms and bonds. For callers.
 use Rattle.std.specs.Prelude.{ℕ, Bool, true, false, List, map, slice_index, slice_index_or}
 use Rattle.std.specs.List.{enumerate_from}
 use Rattle.chem_core.specs.declared.mol.Atom.{Atom}
@@ -40,12 +40,12 @@ meant_atom aromatic valence x = record {
 abbrev pub meant_bond : Bool → SketchBond → Bond
 meant_bond aromatic b = record { a = b.a; b = b.b; kind = meant_kind aromatic b.kind }
 
--- the atoms, by the lists of which are aromatic and of their valences
+-- the atoms, by the lists of the aromatic ones and of their valences
 abbrev pub meant_atoms : List Bool → List ℕ → List SketchAtom → List Atom
 meant_atoms aromatic valences atoms =
     map (λ p. meant_atom (slice_index_or aromatic p.0 false) (slice_index valences p.0) p.1) (enumerate_from 0 atoms)
 
--- the bonds, by the list of which are aromatic
+-- the bonds, by the list of the aromatic ones
 abbrev pub meant_bonds : List Bool → List SketchBond → List Bond
 meant_bonds aromatic bonds = map (λ p. meant_bond (slice_index_or aromatic p.0 false) p.1) (enumerate_from 0 bonds)
 

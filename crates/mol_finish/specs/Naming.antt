@@ -9,7 +9,7 @@ use Rattle.mol_finish.specs.declared.components.TheConstants.{NONE}
 abbrev pub IsNamed : List ℕ → ℕ → Type 0
 IsNamed names a = slice_index names a ≢ NONE
 
--- the atom stands in the queue, from the next one on: the walk has not come to its neighbours
+-- the atom is in the queue, from the next one on: the walk has not come to its neighbours
 abbrev pub IsWaiting : List ℕ → ℕ → ℕ → Type 0
 IsWaiting queue next a = (i : ℕ) × (next ≤ i) × (i < length queue) × (slice_index queue i ≡ a)
 

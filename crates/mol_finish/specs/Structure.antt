@@ -71,7 +71,7 @@ abbrev pub IsAnswer : Format → List ℕ → Result Molecule TextFault → Type
 IsAnswer formats.Smiles text answer = IsStructure text answer
 IsAnswer formats.Molfile text answer = IsMolfileStructure text answer
 
--- What becomes of a sketch that was read; want of memory may come at any. For private clauses alone.
+-- The molecule of a sketch that was read; want of memory may come at any. For private clauses alone.
 abbrev pub IsFinished : SketchTerm → Result Molecule AromFault → Type 0
 IsFinished s (Ok m) = IsMeant (prepared s) m
 IsFinished s (Err (perceiving.Aromatic w)) = IsRefusedAt (prepared s) w

@@ -17,13 +17,14 @@ use smiles_read::read_smiles_in;
 use std::alloc::Global;
 use valence::{fill_hydrogens, suppress};
 
-/// The structure of a text. Of several faults that of the first stage that fails is answered: reading, then
-/// aromaticity, by the place of the atom as written.
+/// The structure of a text, or the fault of the first stage that fails: reading, then aromaticity, by the place of the
+/// atom as written.
 ///
 /// A SMILES has at most 65,536 bytes and 256 branches open at once (OpenSMILES 1.0), a molfile 262,144 bytes (CTfile
-/// formats, version V2000), and both 999 atoms, 999 bonds and 12 neighbours of an atom. Hydrogens that are not written
-/// are counted; hydrogen atoms without isotope and charge become counts at their neighbours; then aromatic atoms and
-/// bonds are found by electron counts on rings, also where double bonds are written. `NoMemory` may come at any text.
+/// formats, version V2000). Both have at most 999 atoms, 999 bonds and 12 neighbours of an atom. Hydrogens that are not
+/// written are counted. Hydrogen atoms without isotope and charge become counts at their neighbours. Then aromatic
+/// atoms and bonds are found by electron counts on rings, even if double bonds are written. `NoMemory` may come at any
+/// text.
 pub fn structure(alloc: Global, format: Format, text: &[u8]) -> Result<Mol, TextFault>
     ensures { IsAnswer format text.now result }
 {
@@ -31,7 +32,7 @@ pub fn structure(alloc: Global, format: Format, text: &[u8]) -> Result<Mol, Text
     structure_in(alloc, &arena, format, text)
 }
 
-/// The same, with working memory from an arena, for one text after another.
+/// As `structure`, but with working memory from an arena, for one text after another.
 pub fn structure_in(
     alloc: Global,
     arena: &Bump,
@@ -56,7 +57,7 @@ pub fn one_structure()
     ring_find::one_answer();
 }
 
-/// A law: but for want of memory a text has one answer in a format.
+/// A law: except for want of memory, a text has one answer in a format.
 pub fn one_answer()
     ensures { (format : Format) (text : List ℕ) (a b : Result Molecule TextFault)
         → IsAnswer format text a → IsAnswer format text b
@@ -81,7 +82,7 @@ fn of_molfile(alloc: Global, arena: &Bump, text: &[u8]) -> Result<Mol, TextFault
     Ok(of_sketch(alloc, arena, sketch)?)
 }
 
-// What a sketch means once its hydrogens are counted.
+// The molecule of a sketch once its hydrogens are counted.
 fn of_sketch(alloc: Global, arena: &Bump, mut sketch: Sketch) -> Result<Mol, AromFault>
     requires sound { IsSound sketch }
     requires few { All (λ a. a.hydrogens ≤ 9) sketch.atoms }

@@ -8,7 +8,7 @@ use bumpalo::Bump;
 use chem_core::Adjacency;
 use std::alloc::{AllocError, Global};
 
-// Stands for the component of an atom that the walks have not come to.
+// The component of an atom that the walks have not come to.
 const NONE: u16 = u16::MAX;
 
 /// For each atom the least atom of its component. Fails only for want of memory.

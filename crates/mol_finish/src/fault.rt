@@ -1,4 +1,4 @@
-//! Formats of structures, and why a text has none.
+//! Formats of structures, and why a text has no structure.
 ghost use Rattle.std.specs.Prelude.{◌≡◌};
 
 use aromatic::AromFault;
@@ -7,7 +7,7 @@ use smiles_read::SmilesFault;
 use std::alloc::AllocError;
 use thiserror::Error;
 
-/// How a structure is written.
+/// The format of a structure.
 #[derive(Clone, Copy, Debug, PartialEq, Eq)]
 pub enum Format {
     /// OpenSMILES 1.0.
@@ -19,13 +19,13 @@ pub enum Format {
 /// Why a text has no structure.
 #[derive(Clone, Copy, Debug, PartialEq, Eq, Error)]
 pub enum TextFault {
-    /// The SMILES is refused. `NoMemory` never stands here.
+    /// The SMILES is refused. The inner fault is never `NoMemory`.
     #[error("{0}")]
     Smiles(SmilesFault),
-    /// The molfile is refused. `NoMemory` never stands here.
+    /// The molfile is refused. The inner fault is never `NoMemory`.
     #[error("{0}")]
     Molfile(MolfileFault),
-    /// Memory ran out in some stage.
+    /// Memory ran out in one of the stages.
     #[error("out of memory")]
     NoMemory,
 }

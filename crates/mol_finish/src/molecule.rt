@@ -1,4 +1,4 @@
-//! What a sketch means, once it is known which of its atoms and bonds are aromatic.
+//! The molecule of a sketch with known aromatic atoms and bonds.
 ghost use Rattle.std.specs.Prelude.{◌≡◌, length, IfOk};
 ghost use Rattle.chem_core.specs.Sound.{IsSound, sketch_ends};
 ghost use Rattle.chem_core.specs.RingFacts.{AreRingBonds, AreSmallestRings};

@@ -1,5 +1,6 @@
--- An atom line (CTfile formats, V2000, atom block): the symbol in columns 32 to 34, the mass difference 35 and 36,
--- the charge 37 to 39, the hydrogen count 43 to 45, the valence 49 to 51. Other columns are not read. For callers.
+-- An atom line (CTfile formats, V2000, atom block). The symbol is in columns 32 to 34, the mass difference in 35 and
+-- 36, the charge in 37 to 39. The hydrogen count is in 43 to 45, the valence in 49 to 51. Other columns are not read.
+-- For callers.
 use Rattle.std.specs.Prelude.{ℕ, ◌||◌, Bool, List, Result, Ok, Err, Option, if◌then◌else◌}
 use Rattle.std.specs.Option.{ok_or}
 use Rattle.molfile_read.specs.declared.fault.MolfileFault.{MolfileFault}
@@ -10,7 +11,7 @@ use Rattle.molfile_read.specs.Field.{columns, trimmed, number_in, signed_number_
 use Rattle.molfile_read.specs.Symbol.{is_query_symbol, element_of}
 use Rattle.molfile_read.specs.Steps.{◌>>=◌}
 
--- a field's value, or the fault of a field that has none
+-- a field's value, or the fault of a field without one
 abbrev pub given : {A : Type 0} → ℕ → Option A → Result A MolfileFault
 given at field = ok_or field (Columns at)
 
@@ -21,7 +22,7 @@ symbol_in line = trimmed (columns 32 34 line)
 abbrev pub is_query_atom : List ℕ → Bool
 is_query_atom line = is_query_symbol (symbol_in line) || is_other_than_zero (number_in 999 (columns 43 45 line))
 
--- what an atom line says
+-- the fields of an atom line
 unfoldable pub atom_read : Line → Result AtomLine MolfileFault
 atom_read l =
     (if is_query_atom l.1 then Err (Query l.0) else

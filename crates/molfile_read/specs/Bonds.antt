@@ -1,5 +1,5 @@
--- A bond line (CTfile formats, V2000, bond block): the first atom in columns 1 to 3, the second 4 to 6, the type 7 to
--- 9, the topology 16 to 18. Other columns are not read. For callers.
+-- A bond line (CTfile formats, V2000, bond block). The first atom is in columns 1 to 3, the second in 4 to 6. The type
+-- is in 7 to 9, the topology in 16 to 18. Other columns are not read. For callers.
 use Rattle.std.specs.Prelude.{ℕ, ◌-◌, ◌==◌, ◌||◌, ◌&&◌, not, nat_lt, nat_le, Bool, false, List, [], ◌∷◌, ◌++◌, Option, Some, None, option_and_then, Result, Ok, Err, if◌then◌else◌}
 use Rattle.std.specs.List.{list_any}
 use Rattle.chem_core.specs.declared.sketch.SketchBond.{SketchBond}
@@ -12,7 +12,7 @@ use Rattle.molfile_read.specs.Field.{columns, number_in, is_other_than_zero}
 use Rattle.molfile_read.specs.Atoms.{given}
 use Rattle.molfile_read.specs.Steps.{◌>>=◌}
 
--- the types 4 to 8 are aromatic and what queries alone use
+-- the types 4 to 8 are aromatic or for queries alone
 abbrev pub is_query_type : Option ℕ → Bool
 is_query_type None = false
 is_query_type (Some n) = nat_le 4 n && nat_le n 8
@@ -27,11 +27,11 @@ kind_of_type n =
     (if n == 2 then Some Double else
     (if n == 3 then Some Triple else None))
 
--- one of so many atoms, which are numbered from 1
+-- one of `atoms` atoms, which are numbered from 1
 abbrev pub is_atom : ℕ → ℕ → Bool
 is_atom atoms n = nat_lt 0 n && nat_le n atoms
 
--- what a bond line says by itself, among so many atoms
+-- the bond of a line by itself, among `atoms` atoms
 unfoldable pub bond_line : ℕ → Line → Result SketchBond MolfileFault
 bond_line atoms l =
     (if is_query_bond l.1 then Err (Query l.0) else
@@ -42,11 +42,11 @@ bond_line atoms l =
     (if is_atom atoms first && (is_atom atoms second && not (first == second))
     then Ok (record { a = first - 1; b = second - 1; kind = kind }) else Err (Bond l.0))))
 
--- some bond joins the two atoms
+-- a bond joins the two atoms
 abbrev pub are_joined : List SketchBond → ℕ → ℕ → Bool
 are_joined bonds a b = list_any (λ x. ((x.a == a) && (x.b == b)) || ((x.a == b) && (x.b == a))) bonds
 
--- a bond line behind those of these bonds: no two bonds join the same atoms
+-- a bond line after those of these bonds: no two bonds join the same atoms
 abbrev pub bond_read : ℕ → List SketchBond → Line → Result SketchBond MolfileFault
 bond_read atoms before l =
     bond_line atoms l >>= λ bond.

@@ -1,5 +1,5 @@
--- The counts line (CTfile formats, V2000, counts line): atoms in columns 1 to 3, bonds 4 to 6, atom lists 7 to 9,
--- text blocks 16 to 18, the version 34 to 39. Other columns are not read. For callers.
+-- The counts line (CTfile formats, V2000, counts line). Atoms are in columns 1 to 3, bonds in 4 to 6, atom lists in 7
+-- to 9. Text blocks are in 16 to 18, the version in 34 to 39. Other columns are not read. For callers.
 use Rattle.std.specs.Prelude.{ℕ, ◌==◌, ◌||◌, not, Bool, false, List, [], ◌∷◌, filter, Option, Some, None, Result, Ok, Err, codes, if◌then◌else◌}
 use Rattle.std.specs.Option.{ok_or}
 use Rattle.std.specs.Str.{bytes_eq}
@@ -21,7 +21,7 @@ is_version_read line =
     let version = filter (λ byte. not (byte == 32)) (columns 34 39 line) in
     bytes_eq version (codes "V2000") || bytes_eq version []
 
--- the counts, or why they are refused: the header before what is a query
+-- the counts, or why they are refused: faults of the header before those of a query
 unfoldable pub counts_read : List ℕ → Result Counts MolfileFault
 counts_read line =
     ok_or (number_in 999 (columns 1 3 line)) Header >>= λ atoms.

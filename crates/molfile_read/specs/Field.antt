@@ -1,4 +1,4 @@
--- Fields: what stands in certain columns of a line (CTfile formats, V2000). For callers.
+-- Fields: certain columns of a line (CTfile formats, V2000). For callers.
 use Rattle.std.specs.Prelude.{ℕ, ◌+◌, ◌-◌, ◌*◌, ◌==◌, ◌&&◌, not, Bool, false, nat_le, ℤ, pos, neg_ℤ, List, [], ◌∷◌, take, drop, reverse, Option, Some, None, option_map, if◌then◌else◌}
 use Rattle.std.specs.Str.{all_ascii_digits}
 
@@ -6,7 +6,7 @@ use Rattle.std.specs.Str.{all_ascii_digits}
 abbrev pub columns : ℕ → ℕ → List ℕ → List ℕ
 columns first last line = take (last + 1 - first) (drop (first - 1) line)
 
--- without the blanks in front; only the space is a blank
+-- without leading blanks; only the space is a blank
 abbrev pub after_blanks : List ℕ → List ℕ
 after_blanks [] = []
 after_blanks (byte ∷ bytes) = if byte == 32 then after_blanks bytes else byte ∷ bytes
@@ -15,26 +15,26 @@ after_blanks (byte ∷ bytes) = if byte == 32 then after_blanks bytes else byte 
 abbrev pub trimmed : List ℕ → List ℕ
 trimmed bytes = reverse (after_blanks (reverse (after_blanks bytes)))
 
--- the value of decimal digits behind a number
+-- the value of decimal digits after those of n
 abbrev pub value_after : ℕ → List ℕ → ℕ
 value_after n [] = n
 value_after n (digit ∷ digits) = value_after (10 * n + (digit - 48)) digits
 
--- the number that decimal digits spell, if it is at most `most`; none if other bytes stand there, or no byte
+-- the number that decimal digits spell, if it is at most `most`; `None` for other bytes, and for no bytes
 abbrev pub decimal_in : ℕ → List ℕ → Option ℕ
 decimal_in most [] = None
 decimal_in most (byte ∷ bytes) =
     if all_ascii_digits (byte ∷ bytes) && nat_le (value_after 0 (byte ∷ bytes)) most
     then Some (value_after 0 (byte ∷ bytes)) else None
 
--- the same where a `-` may stand in front
+-- as `decimal_in`, but a `-` may precede the number
 abbrev pub signed_in : ℕ → List ℕ → Option ℤ
 signed_in most [] = None
 signed_in most (byte ∷ bytes) =
     if byte == 45 then option_map (λ n. neg_ℤ (pos n)) (decimal_in most bytes)
     else option_map (λ n. pos n) (decimal_in most (byte ∷ bytes))
 
--- the number in a field: blanks may stand round it, and a blank field is 0
+-- the number in a field: blanks may be round it, and a blank field is 0
 abbrev pub number_of_trimmed : ℕ → List ℕ → Option ℕ
 number_of_trimmed most [] = Some 0
 number_of_trimmed most (byte ∷ bytes) = decimal_in most (byte ∷ bytes)

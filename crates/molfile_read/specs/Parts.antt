@@ -1,4 +1,4 @@
--- What the parts of the reader promise each other. For private clauses alone.
+-- The promises between the parts of the reader. For private clauses alone.
 use Rattle.std.specs.Prelude.{◌≡◌, ◌≢◌, ◌⊎◌, ℕ, ◌<◌, ◌≤◌, Bool, true, false, nat_lt, List, [], ◌∷◌, ◌++◌, length, All, Option, Some, None, Result, Ok, Err, pos, neg_ℤ, ◌≤ℤ◌, if◌then◌else◌}
 use Rattle.std.specs.List.{AllByRecursion}
 use Rattle.chem_core.specs.declared.sketch.SketchAtom.{SketchAtom}
@@ -17,23 +17,24 @@ use Rattle.molfile_read.specs.declared.setting.Setting.{Setting}
 use Rattle.molfile_read.specs.Text.{Line}
 use Rattle.molfile_read.specs.Bonds.{are_joined}
 
--- Why so many lines were not read: memory ran out, their first fault, or none of them has one, and some are missing.
+-- Why `count` lines were not read: memory ran out, their first fault, or no line has a fault, and some lines are
+-- missing.
 abbrev pub Faults : {A : Type 0} → Result A MolfileFault → ℕ → List Line → MolfileFault → Type 0
 Faults {A} read count lines fault =
     (fault ≡ NoMemory) ⊎ ((read ≡ Err fault) ⊎ ((fault ≡ Cut) × (length lines < count) × ((x : A) × (read ≡ Ok x))))
 
--- Adding what was read, to what was there: all of it, or memory ran out, or its fault.
+-- Adding the values that were read to the old ones: all of them, or memory ran out, or their fault.
 abbrev pub Appends : {A B : Type 0}
     → Result (List A) MolfileFault → List A → List A → Result B MolfileFault → Type 0
 Appends {A} read old new (Ok x) = (xs : List A) × (read ≡ Ok xs) × (new ≡ old ++ xs)
 Appends read old new (Err fault) = (fault ≡ NoMemory) ⊎ (read ≡ Err fault)
 
--- the same where there is one fault
+-- as `Appends`, if there is only one fault
 abbrev pub Adds : {A : Type 0} → Option (List A) → List A → List A → Bool → Type 0
 Adds {A} read old new true = (xs : List A) × (read ≡ Some xs) × (new ≡ old ++ xs)
 Adds read old new false = read ≡ None
 
--- Why the property lines were not read: memory ran out, their first fault, or none has one, and the end is missing.
+-- Why the property lines were not read: memory ran out, their first fault, or no fault, and the end is missing.
 abbrev pub Stops : {A : Type 0} → Result A MolfileFault → Bool → MolfileFault → Type 0
 Stops {A} read ended fault =
     (fault ≡ NoMemory) ⊎ ((read ≡ Err fault) ⊎ ((fault ≡ Cut) × (ended ≡ false) × ((x : A) × (read ≡ Ok x))))
@@ -58,11 +59,11 @@ IsKind Unwritten = ⊥
 IsKind Quad = ⊥
 IsKind Colon = ⊥
 
--- the bond joins two of so many atoms, and has one of these kinds
+-- the bond joins two of `atoms` atoms, and has one of these kinds
 abbrev pub JoinsTwo : ℕ → SketchBond → Type 0
 JoinsTwo atoms b = (b.a < atoms) × (b.b < atoms) × (b.a ≢ b.b) × IsKind b.kind
 
--- no bond joins what a later one joins
+-- no bond joins the atoms of a later one
 abbrev pub AreOnce : List SketchBond → Type 0
 AreOnce [] = Unit {0}
 AreOnce (b ∷ bs) = (are_joined bs b.a b.b ≡ false) × AreOnce bs
@@ -76,7 +77,7 @@ IsValue (Charge n) = (neg_ℤ (pos 15) ≤ℤ n) × (n ≤ℤ pos 15)
 IsValue (Radical n) = n ≤ 2
 IsValue (Isotope n) = n ≤ 999
 
--- a setting of one of so many atoms
+-- a setting of one of `atoms` atoms
 abbrev pub IsSetting : ℕ → Setting → Type 0
 IsSetting atoms s = (s.atom < atoms) × IsValue s.value
 
@@ -86,7 +87,7 @@ AreAtoms atoms =
     All IsSketchAtom atoms × All (λ a. a.hydrogens ≤ 9) atoms × (length atoms ≤ MOST_ATOMS)
     × All (λ a. a.lower ≡ false) atoms
 
--- what was drawn, or why it was not
+-- the sketch, or why it was not made
 abbrev pub IsDrawn : Result SketchTerm MolfileFault → Result SketchTerm MolfileFault → Type 0
 IsDrawn drawn (Ok s) = drawn ≡ Ok s
 IsDrawn drawn (Err fault) = (fault ≡ NoMemory) ⊎ (drawn ≡ Err fault)

@@ -17,12 +17,12 @@ use Rattle.molfile_read.specs.Steps.{◌>>=◌}
 abbrev pub begins : List ℕ → List ℕ → Bool
 begins line text = starts_with nat_eq line text
 
--- what stands between blanks, also where it is nothing
+-- the pieces between blanks, also empty ones
 abbrev pub pieces : List ℕ → List (List ℕ)
 pieces [] = [] ∷ []
 pieces (byte ∷ bytes) = if byte == 32 then [] ∷ pieces bytes else with_byte byte (pieces bytes)
 
--- the words: what stands between blanks
+-- the words: the pieces between blanks that are not empty
 abbrev pub words : List ℕ → List (List ℕ)
 words bytes = filter (λ word. nat_lt 0 (length word)) (pieces bytes)
 
@@ -36,7 +36,7 @@ value_in tags.Charge word = option_map (λ n. Charge n) (signed_in 15 word)
 value_in tags.Radical word = option_map (λ n. Radical (electrons_of n)) (decimal_in 3 word)
 value_in tags.Isotope word = option_map (λ n. Isotope n) (decimal_in 999 word)
 
--- one of so many atoms, as its place from 0
+-- one of `atoms` atoms, as its place from 0
 abbrev pub place_of : ℕ → ℕ → Option ℕ
 place_of atoms n = if is_atom atoms n then Some (n - 1) else None
 
@@ -57,7 +57,7 @@ abbrev pub nothing_in : List (List ℕ) → Option (List Setting)
 nothing_in [] = Some []
 nothing_in (word ∷ ws) = None
 
--- so many pairs of an atom and a value, and nothing else
+-- a number of pairs of an atom and a value, and nothing else
 abbrev pub pairs_in : Tag → ℕ → ℕ → List (List ℕ) → Option (List Setting)
 pairs_in tag atoms zero ws = nothing_in ws
 pairs_in tag atoms (suc n) ws =
@@ -71,7 +71,7 @@ abbrev pub count_at : List (List ℕ) → Option (ℕ × List (List ℕ))
 count_at [] = None
 count_at (count ∷ ws) = option_map (λ n. (n, ws)) (option_and_then not_zero (decimal_in 8 count))
 
--- a count, and so many pairs
+-- a count, and that number of pairs
 abbrev pub counted_pairs : Tag → ℕ → List (List ℕ) → Option (List Setting)
 counted_pairs tag atoms ws = option_and_then (λ c. pairs_in tag atoms c.0 c.1) (count_at ws)
 
@@ -95,11 +95,11 @@ passes_next line = begins line (codes "A  ") || begins line (codes "G  ")
 abbrev pub is_passed_over : List ℕ → Bool
 is_passed_over line = begins line (codes "M  ") || (begins line (codes "V  ") || passes_next line)
 
--- what a line without such a tag sets: nothing, unless it is refused
+-- the settings of a line without such a tag: it has no settings, unless it is refused
 abbrev pub untagged : Line → Result (List Setting) MolfileFault
 untagged l = if is_query_line l.1 then Err (Query l.0) else (if is_passed_over l.1 then Ok [] else Err (Columns l.0))
 
--- what a property line sets, among so many atoms
+-- the settings of a property line, among `atoms` atoms
 abbrev pub tagged : ℕ → Line → Option Tag → Result (List Setting) MolfileFault
 tagged atoms l None = untagged l
 tagged atoms l (Some tag) = given l.0 (counted_pairs tag atoms (words (drop 6 l.1)))
@@ -117,13 +117,13 @@ property_lines passed [] = []
 property_lines true (line ∷ lines) = property_lines false lines
 property_lines false (line ∷ lines) = if is_end line.1 then [] else line ∷ property_lines (passes_next line.1) lines
 
--- whether the end is there
+-- true if the end is there
 abbrev pub is_ended : Bool → List Line → Bool
 is_ended passed [] = false
 is_ended true (line ∷ lines) = is_ended false lines
 is_ended false (line ∷ lines) = if is_end line.1 then true else is_ended (passes_next line.1) lines
 
--- what all lines set, in order, or the first fault
+-- the settings of all lines, in order, or the first fault
 abbrev pub settings_read : ℕ → List Line → Result (List Setting) MolfileFault
 settings_read atoms [] = Ok []
 settings_read atoms (line ∷ lines) =
@@ -143,11 +143,11 @@ abbrev pub isotope_of : Value → Option ℕ
 isotope_of (Isotope n) = Some n
 isotope_of value = None
 
--- what a setting sets for an atom, seen by one of these
+-- the value that a setting has for an atom, seen by one of these
 abbrev pub set_for : {A : Type 0} → (Value → Option A) → ℕ → Setting → Option A
 set_for part atom s = if s.atom == atom then part s.value else None
 
--- the last of a list, or else what was before
+-- the last of a list, or else the value before
 abbrev pub last_or : {A : Type 0} → Option A → List A → Option A
 last_or before [] = before
 last_or before (x ∷ xs) = last_or (Some x) xs
@@ -156,10 +156,10 @@ last_or before (x ∷ xs) = last_or (Some x) xs
 abbrev pub last_set : {A : Type 0} → (Value → Option A) → ℕ → List Setting → Option A
 last_set part atom settings = last_or None (filter_map (set_for part atom) settings)
 
--- some line sets charges or radicals
+-- a line sets charges or radicals
 abbrev pub sets_charges : List Setting → Bool
 sets_charges settings = list_any (λ s. is_some (charge_of s.value) || is_some (radical_of s.value)) settings
 
--- some line sets isotopes
+-- a line sets isotopes
 abbrev pub sets_isotopes : List Setting → Bool
 sets_isotopes settings = list_any (λ s. is_some (isotope_of s.value)) settings

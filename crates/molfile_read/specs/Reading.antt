@@ -22,13 +22,13 @@ use Rattle.molfile_read.specs.Atoms.{atom_read}
 use Rattle.molfile_read.specs.Bonds.{bonds_read}
 use Rattle.molfile_read.specs.Properties.{settings_read, property_lines, is_ended, last_set, charge_of, radical_of, isotope_of, sets_charges, sets_isotopes}
 
--- the charge that a charge field stands for: 1 to 3 are +3 to +1, 5 to 7 are -1 to -3
+-- the charge of a charge field: 1 to 3 are +3 to +1, 5 to 7 are -1 to -3
 abbrev pub field_charge : ℕ → ℤ
 field_charge n =
     if n == 1 then pos 3 else (if n == 2 then pos 2 else (if n == 3 then pos 1 else
     (if n == 5 then negsuc 0 else (if n == 6 then negsuc 1 else (if n == 7 then negsuc 2 else pos 0)))))
 
--- the radical electrons that a charge field stands for: 4 is a doublet
+-- the radical electrons of a charge field: 4 is a doublet
 abbrev pub field_electrons : ℕ → ℕ
 field_electrons n = if n == 4 then 1 else 0
 
@@ -36,8 +36,8 @@ field_electrons n = if n == 4 then 1 else 0
 abbrev pub fill_of : ℕ → ℕ → Fill
 fill_of valence electrons = if valence == 0 then Table electrons else (if valence == 15 then Fixed 0 else Fixed valence)
 
--- The atom at a place, by its line, by whether some line sets charges or radicals, and by what is set last for it. Any
--- such line takes the place of all charge fields, of their radicals too.
+-- The atom at a place, by its line, by its last settings, and by whether a line sets charges or radicals. Any such line
+-- replaces all charge fields, and their radicals too.
 abbrev pub made_atom : ℕ → AtomLine → Bool → Option ℤ → Option ℕ → Option ℕ → SketchAtom
 made_atom place atom charges_set charge radical isotope = record {
   number = atom.number;
@@ -61,7 +61,7 @@ sketch_atoms settings atoms = map (λ p. sketch_atom settings p.0 p.1) (enumerat
 abbrev pub has_mass : AtomLine → Bool
 has_mass atom = not (int_eq atom.mass (pos 0))
 
--- the fault of the first atom line with a mass difference, unless some line sets isotopes
+-- the fault of the first atom line with a mass difference, unless a line sets isotopes
 abbrev pub mass_fault : Option ℕ → Result (Unit {0}) MolfileFault
 mass_fault None = Ok tt
 mass_fault (Some place) = Err (Columns (5 + place))
@@ -69,8 +69,8 @@ mass_fault (Some place) = Err (Columns (5 + place))
 abbrev pub masses_read : List AtomLine → List Setting → Result (Unit {0}) MolfileFault
 masses_read atoms settings = if sets_isotopes settings then Ok tt else mass_fault (position has_mass atoms)
 
--- What the lines are read as: three header lines, the counts line, so many atom lines and bond lines, and property
--- lines up to the end. The first fault, line by line; then that the end is missing; then a mass difference.
+-- The reading of the lines: three header lines, the counts line, its number of atom lines and bond lines, and property
+-- lines up to the end. First come the faults of lines, in order, then a missing end, then a mass difference.
 unfoldable pub drawn : List Line → Result SketchTerm MolfileFault
 drawn lines =
     first_counts (drop 3 lines) >>= λ counts.

@@ -4,7 +4,7 @@ use Rattle.std.specs.List.{position_from}
 use Rattle.std.specs.Str.{bytes_eq}
 use Rattle.chem_core.specs.Element.{symbols}
 
--- what queries alone use: any atom, any but carbon and hydrogen, an atom list, a lone pair, an R group
+-- symbols that queries alone use: any atom, any but carbon and hydrogen, an atom list, a lone pair, an R group
 abbrev pub is_query_symbol : List ℕ → Bool
 is_query_symbol symbol =
     bytes_eq symbol (codes "A") || (bytes_eq symbol (codes "Q") || (bytes_eq symbol (codes "L")
@@ -20,6 +20,6 @@ abbrev pub element_or : Option (ℕ × ℕ) → Option ℕ → Option (ℕ × �
 element_or other None = other
 element_or other (Some number) = Some (number, 0)
 
--- the atomic number of a symbol, where `*` is 0, and the isotope that the symbol stands for
+-- the atomic number of a symbol, which is 0 for `*`, and its isotope
 abbrev pub element_of : List ℕ → Option (ℕ × ℕ)
 element_of symbol = element_or (hydrogen_isotope symbol) (position_from (λ s. bytes_eq s symbol) 0 symbols)

@@ -7,7 +7,7 @@ abbrev pub with_byte : ℕ → List (List ℕ) → List (List ℕ)
 with_byte byte [] = (byte ∷ []) ∷ []
 with_byte byte (line ∷ lines) = (byte ∷ line) ∷ lines
 
--- the lines: each ends with LF, and the last may have none
+-- the lines: each ends with LF, but the last may end without it
 abbrev pub lines_of : List ℕ → List (List ℕ)
 lines_of [] = []
 lines_of (byte ∷ bytes) = if byte == 10 then [] ∷ lines_of bytes else with_byte byte (lines_of bytes)

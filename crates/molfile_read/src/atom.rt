@@ -11,12 +11,12 @@ use crate::lines::Lines;
 use crate::symbol::{element_of, is_query_symbol};
 use bumpalo::Bump;
 
-/// What an atom line says.
+/// The fields of an atom line.
 #[derive(Clone, Copy, Debug, PartialEq, Eq)]
 pub(crate) struct AtomLine {
     /// The atomic number, at most 103.
     pub number: u8,
-    /// The isotope that the symbol stands for; 0 for most.
+    /// The isotope of the symbol; 0 for most.
     pub isotope: u16,
     /// The mass difference.
     pub mass: i8,
@@ -26,7 +26,7 @@ pub(crate) struct AtomLine {
     pub valence: u8,
 }
 
-/// What the atom lines say that come next.
+/// Reads the next `count` atom lines.
 pub(crate) fn read_atoms<'a>(
     arena: &'a Bump,
     lines: &mut Lines,
@@ -48,7 +48,7 @@ pub(crate) fn read_atoms<'a>(
     Ok(atoms)
 }
 
-/// What the atom line of this number says.
+/// Reads atom line `at`.
 #[tactic(auto, unfolding(crate::specs::Atoms::atom_read))]
 pub(crate) fn atom(at: u32, line: &[u8]) -> Result<AtomLine, MolfileFault>
     ensures value { result ≡ atom_read (at, line.now) }

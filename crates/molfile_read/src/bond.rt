@@ -12,7 +12,7 @@ use chem_core::{SketchBond, SketchKind};
 use std::alloc::Global;
 use std::collections::HashSet;
 
-/// What the bond lines say that come next.
+/// Reads the next bond lines.
 pub(crate) fn read_bonds(
     alloc: Global,
     arena: &Bump,
@@ -41,7 +41,7 @@ pub(crate) fn read_bonds(
     Ok(bonds)
 }
 
-/// Whether the number is that of one of so many atoms, which count from 1.
+/// True if the number is that of one of `atoms` atoms, which count from 1.
 pub(crate) fn is_atom(atoms: u16, number: u16) -> bool
     ensures { result ≡ is_atom atoms number }
 {
@@ -74,7 +74,7 @@ fn bond(at: u32, line: &[u8], atoms: u16) -> Result<SketchBond, MolfileFault>
     })
 }
 
-// Whether only queries use bonds of the type.
+// True if only queries use bonds of the type.
 fn is_query_type(kind: Option<u16>) -> bool
     ensures { result ≡ is_query_type kind }
 {

@@ -11,14 +11,14 @@ use crate::lines::Lines;
 // The lines before the counts line, which may hold anything.
 const HEADER_LINES: usize = 3;
 
-/// How many atom lines and bond lines there are.
+/// The numbers of atom lines and of bond lines.
 #[derive(Clone, Copy, Debug, PartialEq, Eq)]
 pub(crate) struct Counts {
     pub atoms: u16,
     pub bonds: u16,
 }
 
-/// What the counts line says.
+/// The counts of the counts line.
 #[tactic(auto, unfolding(crate::specs::Counts::counts_read))]
 pub(crate) fn counts_line(line: &[u8]) -> Result<Counts, MolfileFault>
     ensures value { result ≡ counts_read line.now }
@@ -37,7 +37,7 @@ pub(crate) fn counts_line(line: &[u8]) -> Result<Counts, MolfileFault>
     Ok(Counts { atoms, bonds })
 }
 
-/// What the counts line says, which is the fourth.
+/// The counts of the counts line, which is the fourth.
 pub(crate) fn read_counts(lines: &mut Lines) -> Result<Counts, MolfileFault>
     ensures value { result ≡ first_counts (drop 3 lines.old) }
     ensures rest { OnOk result (lines.new ≡ drop 4 lines.old) }
@@ -52,7 +52,7 @@ pub(crate) fn read_counts(lines: &mut Lines) -> Result<Counts, MolfileFault>
     }
 }
 
-// Whether the version, blanks taken out, is `V2000` or nothing.
+// True if the version, blanks taken out, is `V2000` or nothing.
 fn is_version_read(line: &[u8]) -> bool
     ensures { result ≡ is_version_read line.now }
 {
@@ -60,7 +60,7 @@ fn is_version_read(line: &[u8]) -> bool
     is_spelled(version, b"V2000") || is_spelled(version, b"")
 }
 
-// Whether the bytes that are no blanks are these.
+// True if these are the bytes that are not blanks.
 fn is_spelled(field: &[u8], text: &[u8]) -> bool
     ensures { result ≡ bytes_eq (filter (λ byte. not (byte == 32)) field.now) text.now }
 {

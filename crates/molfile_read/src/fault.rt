@@ -5,23 +5,23 @@ ghost use Rattle.molfile_read.specs.declared.fault.MolfileFault.TheVariants.{NoM
 use std::alloc::{AllocError, AllocFailed};
 use thiserror::Error;
 
-/// Why a molfile is refused. Lines count from 1. A text that breaks several rules has the first fault of this order: a
-/// text that is too long is `Limit`; then the fault of the first line that has one; then `Cut`; then `Columns` for a
-/// mass difference; then `Limit` by an atom's neighbours.
+/// Why a molfile is refused. Lines count from 1. A text that breaks several rules has the first fault of this order.
+/// First `Limit` for a text that is too long, then the fault of the first line that has one. Then `Cut`, then `Columns`
+/// for a mass difference, and last `Limit` by an atom's neighbours.
 #[derive(Clone, Copy, Debug, PartialEq, Eq, Error)]
 pub enum MolfileFault {
     /// The counts line, which is line 4, has no number of atoms or of bonds, no atoms, text blocks, or another version
     /// than V2000.
     #[error("the counts line is not one of V2000")]
     Header,
-    /// A field of this line holds none of its values, or the line is no property line. Also the line of an atom with a
-    /// mass difference, where no line `M  ISO` stands.
+    /// A field of this line has an invalid value, or the line is no property line. Also the line of an atom with a mass
+    /// difference, if there is no line `M  ISO`.
     #[error("line {0} has a field that is not read")]
     Columns(u32),
     /// The bond of this line joins an atom to itself, or ends at no atom, or joins two atoms that have a bond.
     #[error("line {0}: a bond's ends are out of range, equal, or bonded already")]
     Bond(u32),
-    /// This line holds what only queries use.
+    /// This line holds values that only queries use.
     #[error("line {0} belongs to a query")]
     Query(u32),
     /// More than 262,144 bytes, or more than 12 neighbours of an atom.

@@ -1,8 +1,8 @@
-//! Fields: what stands in certain columns of a line (CTfile formats, V2000).
+//! Fields: certain columns of a line (CTfile formats, V2000).
 ghost use Rattle.std.specs.Prelude.{◌≡◌, ◌≤◌, IfSome};
 ghost use Rattle.molfile_read.specs.Field.{columns, after_blanks, trimmed, decimal_in, signed_in, number_in, signed_number_in, is_other_than_zero};
 
-/// What stands in the columns of a line from `first` to `last`, which count from 1; less where the line ends before.
+/// The columns of a line from `first` to `last`, which count from 1; fewer if the line ends before.
 pub(crate) fn columns(line: &[u8], first: usize, last: usize) -> &[u8]
     requires from_one { 1 ≤ first }
     requires order { first ≤ last }
@@ -13,7 +13,7 @@ pub(crate) fn columns(line: &[u8], first: usize, last: usize) -> &[u8]
     &line[start..end]
 }
 
-/// The bytes without the blanks in front.
+/// The bytes without their leading blanks.
 pub(crate) fn after_blanks(bytes: &[u8]) -> &[u8]
     ensures { result.now ≡ after_blanks bytes.now }
 {
@@ -35,7 +35,7 @@ pub(crate) fn trimmed(bytes: &[u8]) -> &[u8]
     rest
 }
 
-/// The number that the digits spell, if it is at most `most`; none for other bytes, and for none.
+/// The number that the digits spell, if it is at most `most`; `None` for other bytes, and for no bytes.
 pub(crate) fn decimal(digits: &[u8], most: u16) -> Option<u16>
     requires { most ≤ 999 }
     ensures value { result ≡ decimal_in most digits.now }
@@ -57,7 +57,7 @@ pub(crate) fn decimal(digits: &[u8], most: u16) -> Option<u16>
     Some(value)
 }
 
-/// The same where a `-` may stand in front.
+/// As `decimal`, but a `-` may precede the number.
 pub(crate) fn signed(text: &[u8], most: u16) -> Option<i8>
     requires { most ≤ 99 }
     ensures { result ≡ signed_in most text.now }
@@ -74,8 +74,8 @@ pub(crate) fn signed(text: &[u8], most: u16) -> Option<i8>
     }
 }
 
-/// The number in the columns of a line from `first` to `last`, if it is at most `most`. Blanks may stand round it, and
-/// a blank field is 0.
+/// The number in the columns of a line from `first` to `last`, if it is at most `most`. Blanks may be round it, and a
+/// blank field is 0.
 pub(crate) fn number(line: &[u8], first: usize, last: usize, most: u16) -> Option<u16>
     requires from_one { 1 ≤ first }
     requires order { first ≤ last }
@@ -89,7 +89,7 @@ pub(crate) fn number(line: &[u8], first: usize, last: usize, most: u16) -> Optio
     }
 }
 
-/// The same where a `-` may stand in front.
+/// As `number`, but a `-` may precede it.
 pub(crate) fn signed_number(line: &[u8], first: usize, last: usize, most: u16) -> Option<i8>
     requires from_one { 1 ≤ first }
     requires order { first ≤ last }
@@ -102,7 +102,7 @@ pub(crate) fn signed_number(line: &[u8], first: usize, last: usize, most: u16) -
     }
 }
 
-/// Whether a field holds another number than 0.
+/// True if a field holds another number than 0.
 pub(crate) fn is_other_than_zero(field: Option<u16>) -> bool
     ensures { result ≡ is_other_than_zero field }
 {

@@ -1,4 +1,4 @@
-//! The atoms of a sketch, from what atom lines and property lines say.
+//! The atoms of a sketch, from atom lines and property lines.
 ghost use Rattle.std.specs.Prelude.{◌≡◌, ◌<◌, ◌≤◌, ◌||◌, is_some, ℕ, None, Ok, length, slice_index_or, position, IfSome, IfOk, MatchResult};
 ghost use Rattle.std.specs.List.{AllByRecursion};
 ghost use Rattle.chem_core.specs.declared.limits.TheConstants.{MOST_ATOMS};
@@ -12,7 +12,7 @@ use crate::setting::{Setting, Value};
 use chem_core::{Fill, MOST_ATOMS, SketchAtom};
 use std::alloc::{AllocError, Global};
 
-// What is set last for each atom, by its place.
+// The last settings for each atom, by its place.
 #[derive(Drop)]
 struct Values {
     charges: [Option<i8>; MOST_ATOMS],
@@ -20,7 +20,7 @@ struct Values {
     isotopes: [Option<u16>; MOST_ATOMS],
 }
 
-/// Refuses the first atom with a mass difference, unless some line sets isotopes.
+/// Refuses the first atom with a mass difference, unless a line sets isotopes.
 pub(crate) fn check_masses(atoms: &[AtomLine], settings: &[Setting]) -> Result<(), MolfileFault>
     requires { length atoms.now ≤ MOST_ATOMS }
     ensures { MatchResult result (λ _. masses_read atoms.now settings.now ≡ Ok tt)
@@ -35,7 +35,7 @@ pub(crate) fn check_masses(atoms: &[AtomLine], settings: &[Setting]) -> Result<(
     }
 }
 
-/// The atoms, by what their lines say and what is set for them.
+/// The atoms, by their lines and their settings.
 pub(crate) fn sketch_atoms(
     alloc: Global,
     atoms: &[AtomLine],
@@ -71,7 +71,7 @@ fn has_mass(atom: &AtomLine) -> bool
     atom.mass != 0
 }
 
-// Whether some line sets isotopes.
+// True if a line sets isotopes.
 fn sets_isotopes(settings: &[Setting]) -> bool
     ensures { result ≡ sets_isotopes settings.now }
 {
@@ -84,7 +84,7 @@ fn is_isotope(setting: &Setting) -> bool
     matches!(setting.value, Value::Isotope(_))
 }
 
-// Whether some line sets charges or radicals.
+// True if a line sets charges or radicals.
 fn sets_charges(settings: &[Setting]) -> bool
     ensures { result ≡ sets_charges settings.now }
 {
@@ -125,7 +125,7 @@ fn last_values(settings: &[Setting]) -> Values
     }
 }
 
-// The atom at a place, where some line sets charges or radicals if `charged`.
+// The atom at a place; `charged`: a line sets charges or radicals.
 fn made_atom(place: u16, atom: &AtomLine, charged: bool, values: &Values) -> SketchAtom
     requires { place < MOST_ATOMS }
     ensures { result ≡ made_atom place atom.now charged (slice_index_or values.now.charges place None)
@@ -153,7 +153,7 @@ fn made_atom(place: u16, atom: &AtomLine, charged: bool, values: &Values) -> Ske
     }
 }
 
-// The charge that a charge field stands for.
+// The charge of a charge field.
 fn field_charge(field: u8) -> i8
     ensures { result ≡ field_charge field }
 {
@@ -168,14 +168,14 @@ fn field_charge(field: u8) -> i8
     }
 }
 
-// The radical electrons that a charge field stands for: 4 is a doublet.
+// The radical electrons of a charge field: 4 is a doublet.
 fn field_electrons(field: u8) -> u8
     ensures { result ≡ field_electrons field }
 {
     u8::from(field == 4)
 }
 
-// Where the hydrogens come from: a valence field of 0 says nothing, and one of 15 says 0.
+// The source of the hydrogens: a valence field of 0 says nothing, and one of 15 says 0.
 fn fill_of(field: u8, radicals: u8) -> Fill
     ensures { result ≡ fill_of field radicals }
 {

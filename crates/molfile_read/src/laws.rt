@@ -4,8 +4,8 @@ ghost use Rattle.chem_core.specs.Sketch.{SketchTerm};
 ghost use Rattle.chem_core.specs.Sound.{IsSound};
 ghost use Rattle.molfile_read.specs.Reading.{HasNoAromaticMark, IsReading};
 
-/// A law: whatever sketch a text is read as is sound, each of its atoms has at most nine hydrogens, and nothing in it
-/// is marked as aromatic.
+/// A law: each sketch that is a reading of a text is sound. Each of its atoms has at most nine hydrogens, and nothing
+/// in it is marked as aromatic.
 pub fn readings_are_sound()
     ensures sound { (text : List ℕ) (s : SketchTerm) → IsReading text (Ok s) → IsSound s }
     ensures few_hydrogens { (text : List ℕ) (s : SketchTerm) → IsReading text (Ok s)

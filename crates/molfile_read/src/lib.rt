@@ -1,6 +1,6 @@
 //! Molfiles, read into sketches (CTfile formats, version V2000).
 //!
-//! Each field is what stands in its columns. The lines are read once, in order, and the first fault is answered.
+//! Each field is certain columns of its line. The lines are read once, in order, and the first fault is returned.
 #![tactic(auto)]
 
 mod atom;

@@ -40,7 +40,7 @@ impl<'a> Lines<'a> {
         }
     }
 
-    /// The next line and its number; none at the end.
+    /// The next line and its number; `None` at the end.
     pub(crate) fn next(&mut self) -> Option<(u32, &'a [u8])>
         ensures { MatchOption result ((self.old ≡ []) × (self.new ≡ []))
             (λ r. self.old ≡ (r.0, r.1.now) ∷ self.new) }

@@ -12,7 +12,7 @@ use crate::setting::{Setting, Tag, Value};
 use bumpalo::Bump;
 use std::alloc::AllocError;
 
-/// What the property lines set that come next, up to the end, among so many atoms.
+/// The settings of the next property lines, up to the end, for `atoms` atoms.
 pub(crate) fn read_properties<'a>(
     arena: &'a Bump,
     lines: &mut Lines,
@@ -38,7 +38,7 @@ pub(crate) fn read_properties<'a>(
     Err(MolfileFault::Cut)
 }
 
-// Adds what a property line sets.
+// Adds the settings of a property line.
 fn property(
     at: u32,
     line: &[u8],
@@ -60,7 +60,7 @@ fn property(
     }
 }
 
-// Which values a line sets, if it sets some.
+// The kind of values that a line sets, if it sets any.
 fn tag_of(line: &[u8]) -> Option<Tag>
     ensures value { result ≡ tag_of line.now }
     ensures long { IfSome result (λ _. 6 ≤ length line.now) }
@@ -76,7 +76,7 @@ fn tag_of(line: &[u8]) -> Option<Tag>
     }
 }
 
-// Whether a line is passed over that sets no values.
+// Passes over a line that sets no values, or refuses it.
 fn untagged(at: u32, line: &[u8]) -> Result<(), MolfileFault>
     ensures { MatchResult result (λ _. untagged (at, line.now) ≡ Ok [])
         (λ e. untagged (at, line.now) ≡ Err e) }
@@ -108,14 +108,14 @@ fn is_passed_over(line: &[u8]) -> bool
     line.starts_with(b"M  ") || line.starts_with(b"V  ") || passes_next(line)
 }
 
-// Whether the line after it is passed over.
+// True if the line after it is passed over.
 fn passes_next(line: &[u8]) -> bool
     ensures { result ≡ passes_next line.now }
 {
     line.starts_with(b"A  ") || line.starts_with(b"G  ")
 }
 
-// Adds the values of a count and so many pairs; false where something else stands there.
+// Adds the values of a count and of that number of pairs; false if the text is anything else.
 fn read_pairs(
     text: &[u8],
     tag: Tag,
@@ -215,7 +215,7 @@ fn next_word(text: &[u8]) -> Option<(&[u8], &[u8])>
     Some(rest.split_at(before_blank(rest)))
 }
 
-// How many bytes stand before the first blank, or before the end.
+// The number of bytes before the first blank, or before the end.
 fn before_blank(bytes: &[u8]) -> usize
     ensures within { result ≤ length bytes.now }
     ensures before { (k : ℕ) → k < result → slice_index bytes.now k ≢ 32 }

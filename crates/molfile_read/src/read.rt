@@ -23,8 +23,8 @@ pub const MOST_BYTES: usize = 262_144;
 
 /// Reads a molfile into a sketch (CTfile formats, version V2000).
 ///
-/// Atoms and bonds stand in the order of their lines. `MolfileFault` says which of several faults is answered.
-/// `NoMemory` may come at any text.
+/// Atoms and bonds are in the order of their lines. `MolfileFault` gives the order of several faults. `NoMemory` may
+/// come at any text.
 pub fn read_molfile(alloc: Global, text: &[u8]) -> Result<Sketch, MolfileFault>
     ensures reading { IsReading text.now result }
     ensures sound { IfOk result (λ s. IsSound s) }
@@ -35,7 +35,7 @@ pub fn read_molfile(alloc: Global, text: &[u8]) -> Result<Sketch, MolfileFault>
     read_molfile_in(alloc, &arena, text)
 }
 
-/// The same, with working memory from an arena, for one text after another.
+/// As `read_molfile`, but with working memory from an arena, for one text after another.
 pub fn read_molfile_in(alloc: Global, arena: &Bump, text: &[u8]) -> Result<Sketch, MolfileFault>
     ensures reading { IsReading text.now result }
     ensures sound { IfOk result (λ s. IsSound s) }
@@ -52,14 +52,14 @@ pub fn read_molfile_in(alloc: Global, arena: &Bump, text: &[u8]) -> Result<Sketc
     Ok(sketch)
 }
 
-/// A law: but for want of memory a text has one reading.
+/// A law: except for want of memory, a text has one reading.
 pub fn one_reading()
     ensures { (text : List ℕ) (a b : Result SketchTerm MolfileFault)
         → IsReading text a → IsReading text b
         → (a ≡ b) ⊎ (a ≡ Err MolfileFault.NoMemory) ⊎ (b ≡ Err MolfileFault.NoMemory) }
 {}
 
-// What the lines say, whatever the number of an atom's neighbours.
+// The sketch of the lines, whatever the number of an atom's neighbours.
 fn drawn(alloc: Global, arena: &Bump, text: &[u8]) -> Result<Sketch, MolfileFault>
     requires { length text.now ≤ MOST_BYTES }
     ensures value { IsDrawn (drawn (numbered_lines text.now)) result }

@@ -1,6 +1,6 @@
-//! What property lines set.
+//! The settings of property lines.
 
-/// Which property lines set values: `M  CHG`, `M  RAD`, `M  ISO`.
+/// The property lines that set values: `M  CHG`, `M  RAD`, `M  ISO`.
 #[derive(Clone, Copy, Debug, PartialEq, Eq)]
 pub(crate) enum Tag {
     Charge,
@@ -15,7 +15,7 @@ pub(crate) enum Value {
     Charge(i8),
     /// The number of radical electrons, at most 2.
     Radical(u8),
-    /// The mass number, at most 999; 0 for none.
+    /// The mass number, at most 999; 0 if not set.
     Isotope(u16),
 }
 

@@ -4,14 +4,14 @@ ghost use Rattle.molfile_read.specs.Symbol.{is_query_symbol, hydrogen_isotope, e
 
 use chem_core::number_of;
 
-/// Whether only queries use the symbol.
+/// True if only queries use the symbol.
 pub(crate) fn is_query_symbol(symbol: &[u8]) -> bool
     ensures { result ≡ is_query_symbol symbol.now }
 {
     matches!(symbol, b"A" | b"Q" | b"L" | b"LP" | b"R#")
 }
 
-/// The atomic number of the symbol, and the isotope that it stands for; none for other bytes.
+/// The atomic number of the symbol, and its isotope; `None` for other bytes.
 pub(crate) fn element_of(symbol: &[u8]) -> Option<(u8, u16)>
     ensures value { result ≡ element_of symbol.now }
     ensures number { IfSome result (λ r. r.0 ≤ 103) }

@@ -1,4 +1,4 @@
--- For callers: pages that are fetched one behind the other and searched together.
+-- For callers: pages that are fetched one after another and searched together.
 use Rattle.std.specs.Prelude.{◌≡◌, ◌≢◌, None, Option, Some, length}
 use Rattle.std.specs.Borrow.{Fml, MutBor}
 use Rattle.std.specs.Io.BufRead.{Rests}
@@ -20,8 +20,8 @@ AreAnswered (Some fault.Worn) calls = ArePages calls
 AreAnswered (Some fault.NoMemory) calls = ¬ ArePages calls
 AreAnswered (Some fault.Pins) calls = ⊥
 
--- Fetches from where the search was to where it is, and of the records of all their pages those that its pattern
--- matches. There are as many fetches as there may be, unless the search ended or met a fault
+-- Fetches from the old place of the search to its new one, and the records of all their pages that its pattern matches.
+-- There are `most` fetches, unless the search ended or met a fault
 pub record IsBatch {S : Type 0} (of : meaning.Ghosts S) (old new : S) (search : SearchTerm) (batch : BatchHits)
     : Type 0 where
   pub calls : Calls
@@ -33,10 +33,10 @@ pub record IsBatch {S : Type 0} (of : meaning.Ghosts S) (old new : S) (search : 
   pub full : batch.fault ≡ None → batch.from ≢ None → length calls ≡ search.most
   pub worn : batch.fault ≡ Some fault.Worn → of.worn new
 
--- the search is where the batch ended
+-- the search is at the end of the batch
 abbrev pub behind : SearchTerm → BatchHits → SearchTerm
 behind old batch = record old { place = place_of batch.from }
 
--- once the hits are let go
+-- as `behind`, once the hits are dropped
 abbrev pub MovesBehind : MutBor SearchTerm → BatchHits → Fml
 MovesBehind search batch = Rests the_row search (λ new. new ≡ behind search.now batch)

@@ -1,4 +1,4 @@
--- For callers: fetches of one pin, each from where the one before it ended.
+-- For callers: fetches of one pin, each from the end of the one before it.
 use Rattle.std.specs.Prelude.{◌≡◌, ◌⊎◌, ℕ, Bool, List, [], ◌∷◌, if◌then◌else◌}
 use Rattle.store_core.specs.Calls as core
 use Rattle.store_core.specs.declared.service.Service as meaning
@@ -18,8 +18,8 @@ Calls = List (Event × Reply)
 pub record Makes {S : Type 0} (of : meaning.Ghosts S) (old new : S) (calls : Calls) : Type 0 where
   pub made : (s : State) → of.at old s → core.Calls of.stretch (of.owns old) old new s calls
 
--- Fetches of one pin by pages of a size, from one place of a search to another: each from where the one before it
--- ended. One that found no memory is the last, and the search stands where it was
+-- Fetches of one pin by pages of a size, from one place of a search to another: each from the end of the one before it.
+-- One that found no memory is the last, and leaves the search at its place
 abbrev pub AreFetches : ℕ → ℕ → List Bool → Place → Calls → Place → Type 0
 AreFetches slot size want place [] place' = place' ≡ place
 AreFetches slot size want place (c ∷ cs) place' = (from : ℕ) × (place ≡ At from) × (c.0 ≡ Fetch slot want from size)

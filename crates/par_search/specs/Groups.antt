@@ -1,4 +1,4 @@
--- For private clauses alone: groups of pages, of which one is matched while the next is fetched.
+-- For private clauses alone: groups of pages, each matched while the next is fetched.
 use Rattle.std.specs.Prelude.{◌≡◌, ◌≢◌, ◌≤◌, ◌+◌, ◌*◌, ◌++◌, All, List, None, length, ℕ}
 use Rattle.std.specs.Int.{div_ceil}
 use Rattle.smarts_parse.specs.Pattern.{PatternTerm}
@@ -16,15 +16,15 @@ use Rattle.par_search.specs.declared.worker.TheConstants.{MOST_RECORDS}
 abbrev pub GoesOn : Fetched → Type 0
 GoesOn f = (f.fault ≡ None) × (f.from ≢ None)
 
--- what was fetched, and what was fetched behind it, as one
+-- the pages of two fetches, the second after the first, as one
 pub record AreBoth (first next both : Fetched) : Type 0 where
   pub count : both.count ≡ first.count + next.count
   pub tried : both.tried ≡ first.tried + next.tried
   pub from : both.from ≡ next.from
   pub fault : both.fault ≡ next.fault
 
--- there is room for two equal shares of all records of pages, so many, with each worker, and for their hits behind
--- those that were found
+-- each worker has room for two equal shares of all n records of the pages, and there is room for their hits after those
+-- that were found
 pub record CanMatch (pattern : PatternTerm) (pages : List PageTerm) (n : ℕ) (workers : List WorkerTerm)
     (found : List ℕ) (capacity : ℕ) : Type 0 where
   pub total : n ≡ length (records_in pages)
@@ -34,7 +34,7 @@ pub record CanMatch (pattern : PatternTerm) (pages : List PageTerm) (n : ℕ) (w
   pub hits : length found + n ≤ capacity
   pub sound : IsSoundPattern pattern
 
--- each worker has room for two equal shares of the records of so many pages, and there is room for all their hits
+-- each worker has room for two equal shares of the records of `pages` pages, and there is room for all their hits
 pub record CanSearch (pattern : PatternTerm) (pages : ℕ) (workers : List WorkerTerm) (capacity : ℕ) : Type 0 where
   pub some : 1 ≤ length workers
   pub few : length workers ≤ MOST_WORKERS
@@ -42,7 +42,7 @@ pub record CanSearch (pattern : PatternTerm) (pages : ℕ) (workers : List Worke
   pub hits : pages * MOST_RECORDS ≤ capacity
   pub sound : IsSoundPattern pattern
 
--- the hits of the records of pages stand behind those that were there, and there is as much room as before
+-- the hits of the records of pages come after those that were there, and the room is as before
 pub record HasMatched (pattern : PatternTerm) (pages : List PageTerm) (old new : List WorkerTerm)
     (found found' : List ℕ) (room room' : ℕ) : Type 0 where
   pub matched : (before : List Found) → AreMatched pattern before found

@@ -1,4 +1,4 @@
--- What a search is after a page.
+-- A search after a page.
 use Rattle.std.specs.Prelude.{◌≡◌, Err, Ok, Result}
 use Rattle.std.specs.Borrow.{Fml, MutBor}
 use Rattle.std.specs.Io.BufRead.{Rests}
@@ -18,15 +18,15 @@ abbrev pub place_then : Place → Result PageHits SearchFault → Place
 place_then place (Ok page) = place_behind place page
 place_then place (Err fault) = place
 
--- the search goes on behind the page, and stays where it was after a fault
+-- the search goes on after the page, and stays at its place after a fault
 abbrev pub after : SearchTerm → Result PageHits SearchFault → SearchTerm
 after old result = record old { place = place_then old.place result }
 
--- once the page is let go
+-- as `after`, once the page is dropped
 abbrev pub Moves : MutBor SearchTerm → Result PageHits SearchFault → Fml
 Moves search result = Rests the_row search (λ new. new ≡ after search.now result)
 
--- behind the last page there is nothing
+-- after the last page there is nothing
 abbrev pub IsEnded : Result PageHits SearchFault → Type 0
 IsEnded (Ok page) = HasNothing page
 IsEnded (Err fault) = ⊥

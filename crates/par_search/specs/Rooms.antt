@@ -7,8 +7,8 @@ use Rattle.par_search.specs.declared.room.PageHits.{PageHits}
 use Rattle.par_search.specs.declared.room.Room.{Room}
 use Rattle.par_search.specs.declared.worker.TheConstants.{MOST_RECORDS}
 
--- room for pages of its size, alone and in a batch, with 1 to 16 workers that have room for an equal piece of a page
--- and for two equal shares of the records of a batch each
+-- room for pages of its size, alone and in a batch. Each of its 1 to 16 workers has room for an equal piece of a page,
+-- and for two equal shares of the records of a batch
 pub record IsRoom (room : Room) : Type 0 where
   pub some : 1 ≤ room.size
   pub few : room.size ≤ MOST_RECORDS
@@ -23,13 +23,13 @@ pub record IsRoom (room : Room) : Type 0 where
   pub shares : All (λ w. 2 * div_ceil (length room.batch.items * MOST_RECORDS) (length room.workers.items) ≤ w.share)
       room.workers.items
 
--- as much room as before
+-- the room is as before
 pub record SameRoom (old new : Room) : Type 0 where
   pub size : new.size ≡ old.size
   pub batch : length new.batch.items ≡ length old.batch.items
   pub room : IsRoom new
 
--- no records and no hits, behind the last page
+-- no records and no hits, after the last page
 pub record HasNothing (p : PageHits) : Type 0 where
   pub records : p.records.now ≡ []
   pub hits : p.hits.now ≡ []

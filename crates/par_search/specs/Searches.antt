@@ -16,8 +16,8 @@ use Rattle.par_search.specs.declared.fault.SearchFault.TheVariants as fault
 use Rattle.par_search.specs.declared.room.PageHits.{PageHits}
 use Rattle.par_search.specs.declared.worker.TheConstants.{MOST_RECORDS}
 
--- what is searched for, what that needs of a print, the pin, the size of a page, how many pages are searched together,
--- and where the search is
+-- the pattern, the bits that it needs of a print, the pin, the size of a page, the most pages searched together, and
+-- the place of the search
 pub record SearchTerm : Type 0 where
   pub pattern : Pattern
   pub want : List Bool
@@ -27,7 +27,7 @@ pub record SearchTerm : Type 0 where
   pub most : ℕ
   pub place : Place
 
--- the pattern is sound, what is wanted is its need, and a page has 1 to 256 records
+-- the pattern is sound, `want` is its need, and a page has 1 to 256 records
 pub record IsSearch (search : SearchTerm) : Type 0 where
   pub sound : IsSoundPattern (pattern_of search.pattern)
   pub need : IsNeedOf (pattern_of search.pattern) search.want
@@ -38,7 +38,7 @@ abbrev pub place_of : Option ℕ → Place
 place_of None = End
 place_of (Some from) = At from
 
--- where a search is after a page that was fetched from an identifier on
+-- the place of a search after a page that was fetched from an identifier on
 abbrev pub place_after : ℕ → List Found → Bool → Place
 place_after from records last = if last then End else At (past from records)
 
@@ -65,7 +65,7 @@ is_worn (Err fault.Worn) = true
 is_worn (Err fault.Pins) = false
 is_worn (Err fault.NoMemory) = false
 
--- The calls of a search. A worn service is not asked, and no call is made where no memory was taken.
+-- The calls of a search. A worn service is not asked, and no call is made if no memory was taken.
 abbrev pub start_calls : Result SearchTerm SearchFault → List (Event × Reply)
 start_calls (Ok search) = (event.Pin, reply.Pinned search.slot search.version) ∷ []
 start_calls (Err fault.Pins) = (event.Pin, reply.NoPin) ∷ []

@@ -17,11 +17,11 @@ use Rattle.par_search.specs.declared.batch.TheConstants.{MOST_PAGES}
 use Rattle.par_search.specs.declared.fault.SearchFault.TheVariants.{Worn}
 use Rattle.par_search.specs.declared.worker.TheConstants.{MOST_RECORDS}
 
--- the records of pages, one behind the other
+-- the records of pages, one after another
 abbrev pub records_in : List PageTerm → List Shared
 records_in pages = flat_map (λ p. p.records) pages
 
--- none of them has more records than a page may have
+-- no page has more records than a page may have
 abbrev pub AreSmall : List PageTerm → Type 0
 AreSmall [] = Unit {0}
 AreSmall (p ∷ ps) = (length p.records ≤ MOST_RECORDS) × AreSmall ps
@@ -30,7 +30,7 @@ AreSmall (p ∷ ps) = (length p.records ≤ MOST_RECORDS) × AreSmall ps
 abbrev pub hits_in : List WorkerTerm → List ℕ
 hits_in workers = flat_map (λ w. w.hits) workers
 
--- each worker has the hits of its share, where shares are of this size, and the first has this number
+-- each worker has the hits of its share; shares are of this size, and the first has this number
 abbrev pub AreFoundFrom : PatternTerm → (size number : ℕ) → List Shared → List WorkerTerm → Type 0
 AreFoundFrom pattern size number records workers =
     (k : ℕ) (worker : WorkerTerm) → slice_get workers k ≡ Some worker
@@ -64,7 +64,7 @@ pub record HasFetched {S : Type 0} (of : meaning.Ghosts S) (old new : S) (slot s
   pub held : SameHeld (of.holds old) (of.holds new)
   pub bounds : NotRaised (of.bounds old) (of.bounds new)
 
--- the first of these pages were fetched, and all pages, of which these are some, have the room that they had
+-- the first of these pages were fetched, and all pages, with these among them, have the room that they had
 pub record FetchesInto {S : Type 0} (of : meaning.Ghosts S) (service service' : S) (pin : Pin) (size : ℕ)
     (want : List Bool) (from : Option ℕ) (old new these : List PageTerm) (result : Fetched) : Type 0 where
   pub fetched : HasFetched of service service' pin.slot size want (place_of from) these result

@@ -1,4 +1,4 @@
-//! Pages that are fetched one behind the other, to be searched together.
+//! Pages that are fetched one after another, to be searched together.
 ghost use Rattle.std.specs.Prelude.{◌≡◌, ◌≤◌, ◌<◌, ◌+◌, ◌^◌, ◌↔◌, All, IfSome, IsTrue};
 ghost use Rattle.std.specs.Arc.{arc_value};
 ghost use Rattle.store_machine.specs.History.{IsId};
@@ -17,9 +17,9 @@ use store_core::{Page, Record, Service};
 /// The most pages that are searched together.
 pub const MOST_PAGES: u32 = 64;
 
-/// What was found in pages that were fetched one behind the other: the identifiers of those records that the pattern
-/// matches, in order, how many records were tried, from where the search goes on, `None` at its end, and why no more
-/// pages were fetched, where a fetch failed. What was fetched before it is searched all the same.
+/// The hits of pages that were fetched one after another: the identifiers of the records that the pattern matches, in
+/// order. `tried` is the number of records tried. `from` is the identifier from which the search goes on, `None` at its
+/// end. `fault` is that of a fetch that failed; pages fetched before it are searched all the same.
 #[derive(Drop)]
 pub struct BatchHits<'a> {
     pub hits: &'a [u32],
@@ -28,8 +28,8 @@ pub struct BatchHits<'a> {
     pub fault: Option<SearchFault>,
 }
 
-/// How many pages were fetched, how many records they have, from where the next one is fetched, `None` behind the last
-/// one, and the fault of a fetch that failed.
+/// The number of pages that were fetched, and that of their records. `from` is the identifier from which the next page
+/// is fetched, `None` after the last one. `fault` is that of a fetch that failed.
 #[derive(Clone, Copy, Debug, PartialEq, Eq)]
 pub struct Fetched {
     pub count: usize,
@@ -39,14 +39,14 @@ pub struct Fetched {
 }
 
 impl Fetched {
-    /// Whether more pages may be fetched: none failed, and one follows.
+    /// True if more pages may be fetched: no fetch failed, and a page follows.
     pub fn goes_on(&self) -> bool
         ensures { IsTrue result ↔ GoesOn self.now }
     {
         self.fault.is_none() && self.from.is_some()
     }
 
-    /// These pages and those that were fetched behind them.
+    /// These pages and those that were fetched after them.
     pub fn followed_by(&self, next: &Fetched) -> Fetched
         requires few { self.now.tried + next.now.tried < 2 ^ 32 }
         requires short { self.now.count + next.now.count < 2 ^ 64 }
@@ -100,7 +100,7 @@ pub fn fetch_pages<S: Service>(
     fetched
 }
 
-// Where a search goes on after a page that was fetched from an identifier on.
+// The identifier from which a search goes on after a page that was fetched from `from` on; `None` after the last page.
 pub(crate) fn next_from(last: bool, from: u32, records: &[Arc<Record>]) -> Option<u32>
     requires in_range { All (λ (r : Shared). IsId (arc_value r).id) records.now }
     requires from { from ≤ 1000000000 }

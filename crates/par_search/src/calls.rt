@@ -14,7 +14,7 @@ use std::marker::Brand;
 use std::sync::ledger::{Blank, Ledger};
 use store_core::{CallFault, Page, Service, Steps};
 
-/// One fetch, as the service says.
+/// One fetch, as in the contract of the service.
 pub fn fetch<S: Service>(
     service: &mut S,
     pin: &Pin,
@@ -41,7 +41,7 @@ pub fn fetch<S: Service>(
     fetch_by::<S, Brand>(service, pin, want, from, limit, page, Blank::new(1))
 }
 
-// The same, with a count of steps that a blank opens.
+// As `fetch`, with a count of steps that a blank opens.
 fn fetch_by<S: Service, L: Ledger>(
     service: &mut S,
     pin: &Pin,

@@ -1,12 +1,12 @@
-//! Why a search does not go on.
+//! The faults of a search.
 use std::alloc::AllocError;
 use store_core::CallFault;
 use thiserror::Error;
 
-/// Why a search does not begin, go on or end.
+/// The reasons why a search does not begin, go on or end.
 #[derive(Clone, Copy, Debug, PartialEq, Eq, Error)]
 pub enum SearchFault {
-    /// As many pins are held as there may be.
+    /// The most pins are held.
     #[error("no pin is free")]
     Pins,
     /// The service answers no call any more.

@@ -1,5 +1,5 @@
-//! The shares of pages that are searched together, each by its worker: records one behind the other, from one page or
-//! from several.
+//! The shares of pages that are searched together, each by its worker: records one after another, from one page or from
+//! several.
 ghost use Rattle.std.specs.Prelude.{◌≡◌, ◌≤◌, ◌<◌, ◌↔◌, ◌+◌, ◌*◌, ◌++◌, All, IsTrue, length, vec_capacity};
 ghost use Rattle.std.specs.Int.{div_ceil};
 ghost use Rattle.smarts_parse.specs.Pattern.{pattern_of};
@@ -19,12 +19,12 @@ use std::thread;
 use std::thread::Threads;
 use store_core::Page;
 
-// The fewest records of a share that has a thread of its own. To make a thread takes about as long as to match a hundred
+// The fewest records of a share that has a thread of its own. Making a thread takes about as long as matching a hundred
 // records.
 const LEAST_SHARE: u32 = 64;
 
-/// How many of the first shares of this size have threads of their own, if there is a share for each worker: all but
-/// the last, or none if a thread would cost more than it spares.
+/// The number of leading shares of `size` records that have threads of their own, if each worker has a share. It is all
+/// but the last, or 0 if a thread would cost more than it saves.
 pub fn threads_beside(size: u32, workers: usize) -> usize
     requires { 1 ≤ workers }
     ensures large { LEAST_SHARE ≤ size → result + 1 ≡ workers }
@@ -33,7 +33,7 @@ pub fn threads_beside(size: u32, workers: usize) -> usize
     if size < LEAST_SHARE { 0 } else { workers - 1 }
 }
 
-/// Searches pages of so many records together, and appends their hits.
+/// Searches pages of `total` records together, and appends their hits.
 pub fn match_pages<R: Threads + Sync, M: Meter>(
     rt: &R,
     pages: &[Page],
@@ -61,14 +61,14 @@ pub fn match_pages<R: Threads + Sync, M: Meter>(
     shares.match_beside(rt, workers, hits, &mut nothing);
 }
 
-/// Pages that are searched in shares: of so many records, one behind the other, each share has as many, the last ones
-/// fewer or none. A meter is told of each share that has records, before it is searched.
+/// Pages that are searched in shares: of their `total` records, one after another, each share has `size`, the last ones
+/// fewer or 0. The meter is called for each share that has records, before it is searched.
 #[derive(Drop)]
 pub struct Shares<'a, M> {
     pub pages: &'a [Page],
     pub total: u32,
     pub size: u32,
-    /// How many of the first are searched in threads of their own, where they have records.
+    /// The number of leading shares that are searched in threads of their own, if they have records.
     pub apart: usize,
     pub pattern: &'a Pattern,
     pub meter: &'a M,
@@ -98,8 +98,8 @@ impl<M: Meter> Shares<'_, M> {
         done
     }
 
-    /// Searches the shares from one on, in threads of their own, where they can be made, while this thread does
-    /// something else. It starts the others one behind the other: two that are started at the same time may be given to
+    /// Searches the shares from `number` on, in threads of their own if they can be made, while this thread does
+    /// something else. It starts the others one after another: two that are started at the same time may be given to
     /// one processor.
     #[cycle(beside)]
     pub fn find_beside<R: Threads + Sync, B, G: FnMut() -> B>(
@@ -128,7 +128,7 @@ impl<M: Meter> Shares<'_, M> {
         self.find_beside(rt, number + 1, rest, other)
     }
 
-    // Whether a share is searched in a thread of its own: one of the first that has records.
+    // True if a share is searched in a thread of its own: a leading one that has records.
     fn is_apart(&self, number: usize) -> bool
         requires number { number < 16 }
         ensures { IsTrue result ↔ ((number < self.now.apart) × (number * self.now.size < self.now.total)) }
@@ -136,7 +136,7 @@ impl<M: Meter> Shares<'_, M> {
         number < self.apart && number * (self.size as usize) < self.total as usize
     }
 
-    // The same for the first of them and the rest.
+    // As `find_beside`, for the first of these shares and the rest.
     #[cycle(beside)]
     fn find_one_beside<R: Threads + Sync, B, G: FnMut() -> B>(
         &self,
@@ -182,7 +182,7 @@ impl<M: Meter> Shares<'_, M> {
         done
     }
 
-    // One share by its worker.
+    // Searches one share by its worker.
     fn find(&self, number: usize, worker: &mut Worker)
         requires number { number < 16 }
         requires share { self.now.size ≤ worker.old.share }
@@ -210,7 +210,7 @@ pub fn add_all_hits(workers: &[Worker], hits: &mut Vec<u32>)
     }
 }
 
-// Those of one share.
+// Appends the hits of one share.
 fn add_hits(found: &[u32], hits: &mut Vec<u32>)
     requires room { length hits.old.items + length found.now ≤ vec_capacity hits.old }
     ensures hits { hits.new.items ≡ hits.old.items ++ found.now }

@@ -15,13 +15,13 @@ use snap_registry::Pin;
 use std::thread::Threads;
 use store_core::{Page, Service};
 
-// How many pages are matched while as many are fetched. Nothing is matched while the first group is fetched, nor
-// fetched while the last one is matched, so that a group is a small part of a batch; and it takes far longer than
-// making the threads that match it.
+// The number of pages that are matched while the same number is fetched. No page is matched while the first group is
+// fetched, or fetched while the last one is matched. So a group is a small part of a batch. Matching a group takes far
+// longer than making the threads for it.
 const GROUP: usize = 8;
 
-// A group of pages that were fetched and are not matched yet: from one place to another, with this many records, and
-// from where the search goes on behind them, `None` at its end.
+// A group of pages that were fetched and are not matched yet: from `start` to `end`, with `tried` records. The search
+// goes on after them from the identifier `from`, `None` at its end.
 #[derive(Clone, Copy)]
 struct Group {
     start: usize,
@@ -30,8 +30,8 @@ struct Group {
     from: Option<u32>,
 }
 
-/// What is asked of each page: it is fetched for a pin, with this many records at most whose print has what is wanted,
-/// and its records are matched by a pattern, in threads, of which a meter is told.
+/// The work on each page: it is fetched for a pin, with at most `size` records whose print has the wanted bits. Its
+/// records are matched by a pattern, in threads, and a meter is called for each share.
 #[derive(Drop)]
 pub struct Task<'a, R, M> {
     pub rt: &'a R,
@@ -99,8 +99,8 @@ impl<R: Threads + Sync, M: Meter> Task<'_, R, M> {
         fetched
     }
 
-    // Matches a group, and fetches the pages behind it, this many. Each worker but the last has a thread of its own,
-    // where the group is large; this thread matches what is left, and then fetches.
+    // Matches a group, and fetches the `next` pages after it. Each worker but the last has a thread of its own, if the
+    // group is large. This thread matches the rest, and then fetches.
     fn search_group<S: Service>(
         &self,
         group: Group,
@@ -147,8 +147,8 @@ impl<R: Threads + Sync, M: Meter> Task<'_, R, M> {
     }
 }
 
-// How many records of a group each worker has, but the last: an eighth more than its equal share. To fetch a record
-// takes about a seventh of the time of matching one, and the last worker's thread fetches as many as all of them match.
+// The number of records of a group for each worker but the last: an eighth more than its equal share. Fetching a record
+// takes about a seventh of the time of matching one, and the last worker's thread fetches a whole group.
 fn share_beside(total: u32, workers: u32) -> u32
     requires { 1 ≤ workers }
     ensures all { div_ceil total workers ≤ result }

@@ -3,8 +3,8 @@ ghost use Rattle.par_search.specs.Hits.{PagesAreHits};
 
 use store_machine::{calls_give_pages, needs_screen};
 
-/// The pages of a search that ended, matched, are the hits of its pattern at its version, and those that were tried are
-/// the records whose print holds what the pattern needs.
+/// The pages of a search that ended, matched, are the hits of its pattern at its version. The records that were tried
+/// are those whose print holds the bits that the pattern needs.
 pub fn pages_are_hits()
     ensures { PagesAreHits }
 {

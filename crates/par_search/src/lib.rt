@@ -1,10 +1,10 @@
-//! Searches over a service: a pin, pages of records whose print holds what the pattern needs, and of each page the
-//! records that the pattern matches.
+//! Searches over a service: a pin, pages of records whose print holds the bits that the pattern needs, and the records
+//! of each page that the pattern matches.
 //!
 //! A search takes all its memory before its pin, so that only a fetch can fail later. The records of a page are cut
-//! into pieces, one for each worker. Several pages are searched together by groups: they are fetched one behind the
-//! other, and the workers match a group, a share of its records each and in threads of their own, while the next group
-//! is fetched by the thread of the last of them. That the pages of a pin are together the hits is a law of the machine.
+//! into pieces, one for each worker. Several pages are searched together by groups: they are fetched one after another.
+//! The workers match a group, a share of its records each and in threads of their own. Meanwhile the thread of the last
+//! worker fetches the next group. It is a law of the machine that the pages of a pin are together the hits.
 #![tactic(auto)]
 
 mod batch;

@@ -21,8 +21,8 @@ use store_core::Record;
 /// The most workers of a search.
 pub const MOST_WORKERS: usize = 16;
 
-/// Matches records. They are cut into pieces of one size, one for each worker, the last ones shorter or empty, and each
-/// is matched in a thread of its own, where one can be made. The meter is told of each piece that has records. Takes no
+/// Matches records. They are cut into pieces of one size, one for each worker, the last ones shorter or empty. Each is
+/// matched in a thread of its own, if one can be made. The meter is called for each piece that has records. Takes no
 /// memory.
 pub fn match_pieces<R: Threads + Sync, M: Meter>(
     rt: &R,
@@ -55,7 +55,7 @@ pub fn match_pieces<R: Threads + Sync, M: Meter>(
     );
 }
 
-// One piece by its worker.
+// Matches one piece by its worker.
 fn match_piece<M: Meter>(
     records: &[Arc<Record>],
     size: usize,
@@ -77,7 +77,7 @@ fn match_piece<M: Meter>(
     worker.mark(piece, pattern);
 }
 
-// What is in one piece.
+// The items of one piece.
 fn piece_at<T>(items: &[T], size: usize, number: usize) -> &[T]
     ensures { result.now ≡ piece_of size number items.now }
 {
@@ -104,7 +104,7 @@ pub fn list_hits(records: &[Arc<Record>], workers: &[Worker], hits: &mut Vec<u32
     }
 }
 
-// Those of a piece.
+// Appends those of a piece.
 fn list_piece(piece: &[Arc<Record>], flags: &[bool], hits: &mut Vec<u32>)
     requires room { length hits.old.items + length piece.now ≤ vec_capacity hits.old }
     ensures matched { (pattern : PatternTerm) (before : List Found) → AreFlags pattern piece.now flags.now
@@ -121,7 +121,7 @@ fn list_piece(piece: &[Arc<Record>], flags: &[bool], hits: &mut Vec<u32>)
     }
 }
 
-// The flag at a place. None is set behind the last.
+// The flag at a place; false after the last one.
 fn is_set(flags: &[bool], place: usize) -> bool
     ensures { result ≡ slice_index_or flags.now place false }
 {

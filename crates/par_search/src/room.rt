@@ -31,8 +31,8 @@ use std::sync::Arc;
 use std::thread::Threads;
 use store_core::{CallFault, Page, Record, Service};
 
-/// The hits of a page: the page's records, the identifiers of those that the pattern matches, in order, how many
-/// records were tried, and whether no page follows.
+/// The hits of a page: the page's records, the identifiers of those that the pattern matches, in order, the number of
+/// records tried, and whether no page follows.
 #[derive(Drop)]
 pub struct PageHits<'a> {
     pub records: &'a [Arc<Record>],
@@ -41,7 +41,7 @@ pub struct PageHits<'a> {
     pub last: bool,
 }
 
-/// Room for a page of this many records, for a batch of pages that are searched together, and for matching them.
+/// Room for a page of `size` records, for a batch of pages that are searched together, and for matching them.
 #[derive(Drop)]
 pub struct Room {
     pub size: u32,
@@ -52,7 +52,7 @@ pub struct Room {
 }
 
 impl Room {
-    /// Takes the memory, for this many workers, and for batches of at most this many pages.
+    /// Takes the memory for `workers` workers, for pages of `size` records, and for batches of at most `most` pages.
     pub fn reserve(alloc: Global, workers: u32, size: u32, most: u32) -> Result<Room, AllocError>
         requires some_workers { 1 ≤ workers }
         requires few_workers { workers ≤ MOST_WORKERS }
@@ -109,7 +109,7 @@ impl Room {
         list_hits(self.page.records(), &self.workers, &mut self.hits);
     }
 
-    /// Fetches pages into the batch, one behind the other, and finds the hits of their records.
+    /// Fetches pages into the batch, one after another, and finds the hits of their records.
     pub fn search_batch<R: Threads + Sync, S: Service, M: Meter>(
         &mut self,
         rt: &R,
@@ -147,7 +147,7 @@ impl Room {
         )
     }
 
-    /// What was found in the pages that were fetched.
+    /// The hits in the pages that were fetched.
     pub fn found(&self, fetched: Fetched) -> BatchHits<'_>
         ensures hits { result.hits.now ≡ self.now.hits.items }
         ensures tried { result.tried ≡ fetched.tried }
@@ -180,7 +180,7 @@ impl Room {
         }
     }
 
-    /// No records, behind the last page.
+    /// No records, after the last page.
     pub fn nothing(&self) -> PageHits<'_>
         ensures { HasNothing result }
     {
@@ -193,7 +193,7 @@ impl Room {
     }
 }
 
-// So many workers, each for pieces and for shares of these sizes.
+// `number` workers, each for pieces and for shares of these sizes.
 fn reserve_workers(
     alloc: Global,
     number: u32,
@@ -213,7 +213,7 @@ fn reserve_workers(
     Ok(workers)
 }
 
-// So many pages of this size.
+// `number` pages of this size.
 fn reserve_pages(alloc: Global, number: u32, size: u32) -> Result<Vec<Page>, AllocError>
     requires some { 1 ≤ size }
     requires few { size ≤ MOST_RECORDS }

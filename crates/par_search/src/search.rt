@@ -29,9 +29,9 @@ use std::marker::Model;
 use std::thread::Threads;
 use store_core::{CallFault, Service};
 
-/// A search by the pages of one pin. Contracts see its pattern, what the pattern needs of a print, its pin, the size of
-/// its pages, how many of them it searches together, and where it is: at the identifier from which it fetches next, or
-/// at its end.
+/// A search by the pages of one pin. Contracts see its pattern, the bits that the pattern needs of a print, its pin,
+/// the size of its pages, and the most pages that it searches together. They also see its place: the identifier from
+/// which it fetches next, or its end.
 #[derive(Drop)]
 pub struct Search {
     pattern: Pattern,
@@ -75,8 +75,8 @@ impl Model for Search {
 }
 
 impl Search {
-    /// Takes all memory, for this many workers, 1 to 16, and for pages of this many records, 1 to 256, one at a time.
-    /// Then pins the head.
+    /// Takes all memory, for `workers` workers, 1 to 16, and for pages of `page` records, 1 to 256, one at a time. Then
+    /// pins the head.
     pub fn start<S: Service>(
         alloc: Global,
         service: &mut S,
@@ -103,7 +103,7 @@ impl Search {
         Search::start_batched(alloc, service, pattern, workers, page, 0)
     }
 
-    /// The same, for batches of at most this many pages as well, 0 to 64.
+    /// As `start`, but for batches of at most `most` pages as well, 0 to 64.
     pub fn start_batched<S: Service>(
         alloc: Global,
         service: &mut S,
@@ -145,8 +145,8 @@ impl Search {
         }
     }
 
-    /// The next page and its hits: one fetch, then matching. Behind the last page no call is made, and nothing is hit.
-    /// After a fault the search is where it was.
+    /// The next page and its hits: one fetch, then matching. After the last page no call is made, and there are no
+    /// hits. After a fault the search is at the same place.
     pub fn next<R: Threads + Sync, S: Service, M: Meter>(
         &mut self,
         rt: &R,
@@ -175,9 +175,9 @@ impl Search {
         Ok(self.room.shown(last))
     }
 
-    /// The next pages, as many as are searched together, and their hits: fetches one behind the other, and matching,
-    /// which goes on beside the fetches where there are several workers. Behind the last page no call is made. After a
-    /// fault what was fetched before it is searched all the same, and the search goes on from there.
+    /// The next pages, up to the most that are searched together, and their hits: fetches one after another, and
+    /// matching, which runs beside the fetches if there are several workers. After the last page no call is made. After
+    /// a fault the pages that were fetched before it are searched all the same, and the search goes on from there.
     pub fn next_pages<R: Threads + Sync, S: Service, M: Meter>(
         &mut self,
         rt: &R,

@@ -1,5 +1,5 @@
 //! A worker: memory for matching, and for each record of its piece whether the pattern matches it, or the hits of its
-//! share of some pages' records.
+//! share of the records of pages.
 ghost use Rattle.std.specs.Prelude.{◌≡◌, ◌≤◌, ◌+◌, ◌++◌, [], IfOk, List, drop, length, take, vec_capacity};
 ghost use Rattle.matcher.specs.Prepared.{IsPreparedFor};
 ghost use Rattle.smarts_parse.specs.Pattern.{pattern_of};
@@ -22,8 +22,8 @@ use store_core::{Page, Record};
 /// The most records of a page.
 pub const MOST_RECORDS: u32 = 256;
 
-/// Memory for matching the records of one piece, or of one share. Contracts see its flags and its hits, and for
-/// how many of each there is room.
+/// Memory for matching the records of one piece, or of one share. Contracts see its flags and its hits, and the room
+/// for each.
 #[derive(Drop)]
 pub struct Worker {
     scratch: Scratch,
@@ -46,7 +46,7 @@ impl Model for Worker {
 }
 
 impl Worker {
-    /// A worker for pieces of so many records, 1 to 256. It has no flags yet.
+    /// A worker for pieces of `piece` records, 1 to 256. It has no flags yet.
     pub fn reserve(alloc: Global, piece: u32) -> Result<Worker, AllocError>
         requires some { 1 ≤ piece }
         requires few { piece ≤ MOST_RECORDS }
@@ -56,7 +56,7 @@ impl Worker {
         Worker::reserve_for(alloc, piece, 0)
     }
 
-    // One for shares of so many records as well.
+    // As `reserve`, but for shares of `share` records as well.
     pub(crate) fn reserve_for(alloc: Global, piece: u32, share: usize) -> Result<Worker, AllocError>
         requires some { 1 ≤ piece }
         requires few { piece ≤ MOST_RECORDS }
@@ -74,7 +74,7 @@ impl Worker {
         })
     }
 
-    /// For each record of its last piece, in order, whether the pattern matches it.
+    /// For each record of its last piece, in order, true if the pattern matches it.
     pub fn flags(&self) -> &[bool]
         ensures { result.now ≡ self.now.flags }
     {
@@ -103,7 +103,7 @@ impl Worker {
         }
     }
 
-    // Finds the hits of a share: of so many records of these pages, from this one on. Takes no memory.
+    // Finds the hits of a share: of `count` records of these pages, from record `start` on. Takes no memory.
     pub(crate) fn find(&mut self, pages: &[Page], start: usize, count: usize, pattern: &Pattern)
         requires sound { IsSoundPattern (pattern_of pattern.now) }
         requires room { count ≤ self.old.share }
@@ -125,7 +125,7 @@ impl Worker {
     }
 }
 
-// The first piece of this size, and the records behind it.
+// The first piece of this size, and the records after it.
 pub(crate) fn cut(records: &[Arc<Record>], size: usize) -> (&[Arc<Record>], &[Arc<Record>])
     ensures piece { result.0.now ≡ take size records.now }
     ensures behind { result.1.now ≡ drop size records.now }
@@ -134,7 +134,7 @@ pub(crate) fn cut(records: &[Arc<Record>], size: usize) -> (&[Arc<Record>], &[Ar
     (&records[..end], &records[end..])
 }
 
-// Adds the identifiers of those records that the pattern matches.
+// Appends the identifiers of the records that the pattern matches.
 fn find_in(scratch: &mut Scratch, records: &[Arc<Record>], pattern: &Pattern, hits: &mut Vec<u32>)
     requires sound { IsSoundPattern (pattern_of pattern.now) }
     requires prepared { IsPreparedFor (pattern_of pattern.now) scratch.old }

@@ -32,7 +32,7 @@ through js l ks = inward js ++ l.0 ∷ l.1 ∷ outward ks
 abbrev pub number_of : List ℕ → ℕ
 number_of bytes = fold (λ n byte. 256 * n + byte) 0 bytes
 
--- what a hash that starts so is the remainder of
+-- a number whose remainder is the hash that starts so
 abbrev pub sum_from : ℕ → List ℕ → ℕ
 sum_from start bytes = fold (λ n byte. 131 * n + byte) start bytes
 
@@ -41,14 +41,14 @@ abbrev pub AreBytes : List Joint → Type 0
 AreBytes [] = Unit {0}
 AreBytes (j ∷ js) = (j.0.0 < 256) × (j.0.1 < 256) × (j.1 < 256) × AreBytes js
 
--- what is kept of an arm with these labels and bonds
+-- the numbers and sums of an arm with these labels and bonds
 pub record IsHalf (js : List Joint) (half : Half) : Type 0 where
   pub bytes : AreBytes js
   pub number : half.number ≡ number_of (inward js)
   pub head : half.head ≡ sum_from 7 (inward js)
   pub tail : half.tail ≡ sum_from 0 (outward js)
 
--- an arm of that many atoms
+-- an arm of n atoms
 abbrev pub IsHalfOf : ℕ → Half → Type 0
 IsHalfOf n half = (js : List Joint) × (length js ≡ n) × IsHalf js half
 
@@ -64,24 +64,24 @@ AreJoints v c (x ∷ xs) [] = ⊥
 AreJoints v c [] (j ∷ js) = ⊥
 AreJoints v c (x ∷ xs) (j ∷ js) = (v.label x ≡ Some j.0) × (v.byte x (next_to c xs) ≡ Some j.1) × AreJoints v c xs js
 
--- what is kept of an arm in a family of labels
+-- the numbers and sums of an arm in a family of labels
 abbrev pub half_in : Arm → Family → Half
 half_in arm exact = arm.exact
 half_in arm plain = arm.plain
 
--- the atoms of an arm of that many, the farthest first
+-- the atoms of an arm of n atoms, the farthest first
 abbrev pub atoms_in : ℕ → Arm → List ℕ
 atoms_in zero arm = []
 atoms_in (suc zero) arm = arm.near ∷ []
 atoms_in (suc (suc n)) arm = arm.far ∷ arm.near ∷ []
 
--- which atoms an arm of less than two names
+-- the atoms that an arm of less than two names
 abbrev pub IsShaped : ℕ → ℕ → Arm → Type 0
 IsShaped zero c arm = (arm.near ≡ c) × (arm.far ≡ c)
 IsShaped (suc zero) c arm = arm.far ≡ arm.near
 IsShaped (suc (suc n)) c arm = Unit {0}
 
--- an arm to c of that many atoms
+-- an arm to c of n atoms
 pub record IsArm (views : Family → View) (c n : ℕ) (arm : Arm) : Type 0 where
   pub distinct : AllPairs ◌≢◌ (atoms_in n arm ++ c ∷ [])
   pub shape : IsShaped n c arm
@@ -96,7 +96,7 @@ HasArm n arms xs = (arm : Arm) × Contains arms arm × (atoms_in n arm ≡ xs)
 abbrev pub AreAmong : List Arm → List Arm → Type 0
 AreAmong arms others = (arm : Arm) → Contains arms arm → Contains others arm
 
--- all arms to c of that many atoms
+-- all arms to c of n atoms
 pub record AreArms (views : Family → View) (c n : ℕ) (arms : List Arm) : Type 0 where
   pub each : All (IsArm views c n) arms
   pub all : (family : Family) (xs : List ℕ) (js : List Joint) → length xs ≡ n → AllPairs ◌≢◌ (xs ++ c ∷ [])
@@ -121,11 +121,11 @@ pub record IsMiddle (middle : Middle) : Type 0 where
   pub valid : IsMolecule middle.mol.now
   pub labels : AreLabels (views_around middle) middle.atom middle.labels
 
--- an arm to a middle, of that many atoms
+-- an arm to a middle, of n atoms
 abbrev pub IsArmTo : Middle → ℕ → Arm → Type 0
 IsArmTo middle n arm = IsArm (views_around middle) middle.atom n arm
 
--- all arms to a middle of that many atoms
+-- all arms to a middle of n atoms
 abbrev pub AreArmsTo : Middle → ℕ → List Arm → Type 0
 AreArmsTo middle n arms = AreArms (views_around middle) middle.atom n arms
 
@@ -138,7 +138,7 @@ abbrev pub AreApart : Arm → Arm → Type 0
 AreApart first last = (first.near ≢ last.near) × (first.near ≢ last.far) × (first.far ≢ last.near)
     × (first.far ≢ last.far)
 
--- as many atoms before as behind, or one more
+-- equally many atoms before and after, or one more before
 abbrev pub IsBalanced : ℕ → ℕ → Type 0
 IsBalanced before behind = (before ≡ behind) ⊎ (before ≡ behind + 1)
 
@@ -151,17 +151,17 @@ abbrev pub IsBitAt : (Family → View) → List ℕ → ℕ → Type 0
 IsBitAt views atoms bit = (family : Family) × (there back : List ℕ) × IsPath (views family) atoms there back
     × (bit ≡ bit_of there back)
 
--- the bit of a path through c, with so many atoms before it and so many behind it. Where there is one more before it,
--- the one next to it is lower.
+-- the bit of a path through c, with these numbers of atoms before and after it. If there is one more before it, the one
+-- next to it is lower.
 abbrev pub IsBitThrough : (Family → View) → ℕ → ℕ → ℕ → ℕ → Type 0
 IsBitThrough views c before behind bit = (xs ys : List ℕ) × (length xs ≡ before) × (length ys ≡ behind)
     × ((before ≡ behind) ⊎ (last_of xs < c)) × IsBitAt views (xs ++ c ∷ ys) bit
 
--- the bit of a path of which c is the middle, or the higher of the two atoms in the middle
+-- the bit of a path whose middle is c, or the higher of its two middle atoms
 abbrev pub IsBitAround : (Family → View) → ℕ → ℕ → Type 0
 IsBitAround views c bit = (before behind : ℕ) × (before ≤ LONGEST) × IsBalanced before behind
     × IsBitThrough views c before behind bit
 
--- the bit of a path of which one of the first n atoms is the middle
+-- the bit of a path whose middle is one of the first n atoms
 abbrev pub IsBitBelow : (Family → View) → ℕ → ℕ → Type 0
 IsBitBelow views n bit = (c : ℕ) × (c < n) × IsBitAround views c bit

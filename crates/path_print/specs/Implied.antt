@@ -1,4 +1,4 @@
--- What is known of every atom and bond at which an expression is true, for callers.
+-- The known facts of every atom and bond at which an expression is true, for callers.
 use Rattle.std.specs.Prelude.{ℕ, Bool, true, false, not, nat_le, nat_eq, Option, None, Some, if◌then◌else◌}
 use Rattle.smarts_parse.specs.declared.pattern.AtomPrim.{AtomPrim}
 use Rattle.smarts_parse.specs.declared.pattern.AtomPrim.TheVariants as atoms
@@ -19,7 +19,7 @@ abbrev pub either : {A : Type 0} → Option A → Option A → Option A
 either None y = y
 either (Some x) y = Some x
 
--- what both have, where it is the same
+-- the value of both, if it is the same
 abbrev pub alike : {A : Type 0} → (A → A → Bool) → Option A → Option A → Option A
 alike eq None y = None
 alike eq (Some x) None = None
@@ -40,7 +40,7 @@ both k l = record { number = either k.number l.number; aromatic = either k.aroma
 abbrev pub common : Known → Known → Known
 common k l = record { number = alike nat_eq k.number l.number; aromatic = alike same_flag k.aromatic l.aromatic }
 
--- what an atom expression implies
+-- the facts that an atom expression implies
 abbrev pub implied : Term AtomPrim → Known
 implied (Prim p) = prim_implies p
 implied (Not e) = nothing

@@ -18,7 +18,7 @@ abbrev pub flag_of : Bool → ℕ
 flag_of true = 1
 flag_of false = 0
 
--- the label of an atom of which this is known, two bytes; none where too little is known
+-- the label of an atom with these known facts, two bytes; `None` if too little is known
 abbrev pub label_of : Family → Known → Option (ℕ × ℕ)
 label_of exact k = do
   number ← k.number
@@ -26,8 +26,8 @@ label_of exact k = do
   Some (number, flag_of aromatic)
 label_of plain k = option_map (λ number. (number, 2)) k.number
 
--- A structure as its paths see it: the label of an atom, and the byte of the bond that joins two atoms. None where
--- there is none.
+-- A structure as its paths see it: the label of an atom, and the byte of the bond that joins two atoms. `None` if there
+-- is no label, or no byte.
 pub record View : Type 0 where
   pub label : ℕ → Option (ℕ × ℕ)
   pub byte : ℕ → ℕ → Option ℕ
@@ -60,6 +60,6 @@ pub record IsPath (v : View) (atoms there back : List ℕ) : Type 0 where
   pub reads : string_of v atoms ≡ Some there
   pub reads_back : string_of v (reverse atoms) ≡ Some back
 
--- the bit of some path
+-- the bit of a path
 abbrev pub IsPathBit : View → ℕ → Type 0
 IsPathBit v bit = (atoms there back : List ℕ) × IsPath v atoms there back × (bit ≡ bit_of there back)

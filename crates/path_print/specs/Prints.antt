@@ -10,7 +10,7 @@ use Rattle.path_print.specs.declared.known.Known.{Known}
 use Rattle.path_print.specs.Path.{Family, label_of, View, IsPathBit}
 use Rattle.path_print.specs.Implied.{implied, implied_byte}
 
--- what is known of an atom of a molecule
+-- the known facts of an atom of a molecule
 abbrev pub known_of : Atom → Known
 known_of x = record { number = Some x.number; aromatic = Some x.aromatic }
 
@@ -32,7 +32,7 @@ molecule_view m family = record {
   byte = λ x y. option_map (λ bond. kind_byte bond.kind) (find (λ bond. are_ends x y bond.a bond.b) m.bonds);
 }
 
--- a pattern's graph as its paths see it: what its expressions imply
+-- a pattern's graph as its paths see it: the facts that its expressions imply
 abbrev pub graph_view : GraphTerm → Family → View
 graph_view g family = record {
   label = λ a. option_and_then (λ e. label_of family (implied e)) (slice_get g.atoms a);

@@ -10,7 +10,7 @@ use Rattle.path_print.specs.Prints.{graph_view}
 use Rattle.path_print.specs.Texts.{PathTerm, IsBitFrom, last_of}
 use Rattle.path_print.specs.Squares.{IsSheet}
 
--- the sheet says what the expressions of its graph imply
+-- the sheet has the facts that the expressions of its graph imply
 abbrev pub IsReady : Sheet → Type 0
 IsReady s = IsSheet (graph_of s.graph.now) s.known.now s.square.now s.rows.now s.counts.now
 

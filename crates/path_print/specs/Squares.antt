@@ -1,4 +1,4 @@
--- What a pattern's expressions imply, worked out once, for private clauses alone.
+-- The facts that a pattern's expressions imply, computed once, for private clauses alone.
 use Rattle.std.specs.Prelude.{◌≡◌, ◌≢◌, ℕ, ◌+◌, ◌*◌, ◌<◌, ◌≤◌, List, length, map, All, Contains, slice_get, slice_index, find, option_map, option_and_then, unwrap_or}
 use Rattle.chem_core.specs.Graph.{JoinsAt}
 use Rattle.smarts_parse.specs.Pattern.{BondTerm, GraphTerm}
@@ -7,11 +7,11 @@ use Rattle.path_print.specs.Path.{flag_of}
 use Rattle.path_print.specs.Implied.{implied, implied_byte}
 use Rattle.path_print.specs.Prints.{are_ends}
 
--- what each atom of the graph implies
+-- the facts that each atom of the graph implies
 abbrev pub AreKnown : GraphTerm → List Known → Type 0
 AreKnown g known = (i : ℕ) → i < length g.atoms → slice_get known i ≡ option_map implied (slice_get g.atoms i)
 
--- A square of 256 rows and columns: for two atoms the byte of the bond between them, and 0 where none is implied.
+-- A square of 256 rows and columns: for two atoms the byte of the bond between them, and 0 if no byte is implied.
 abbrev pub IsSquare : List BondTerm → List ℕ → Type 0
 IsSquare bonds square = (x y : ℕ) → x < 256 → y < 256
     → slice_index square (256 * x + y) ≡ unwrap_or
@@ -27,12 +27,12 @@ pub record IsSimplePattern (n : ℕ) (bonds : List BondTerm) : Type 0 where
 abbrev pub rank_of : ℕ → Known → ℕ
 rank_of byte k = 15 * unwrap_or k.number 255 + 5 * unwrap_or (option_map flag_of k.aromatic) 2 + byte
 
--- the neighbours of the atom x, of so many atoms, each behind its rank
+-- the neighbours of the atom x among `atoms` atoms, each after its rank
 pub record AreEnds (atoms : ℕ) (square : List ℕ) (x : ℕ) (ends : List (ℕ × ℕ)) : Type 0 where
   pub within : All (λ end. end.1 < atoms) ends
   pub each : (y : ℕ) → y < atoms → slice_index square (256 * x + y) ≢ 0 → (rank : ℕ) × Contains ends (rank, y)
 
--- the neighbours of the atom x in its row, so many
+-- the first `count` numbers of the row of the atom x are its neighbours
 pub record IsRow (atoms : ℕ) (square rows : List ℕ) (x count : ℕ) : Type 0 where
   pub short : count ≤ 256
   pub within : (k : ℕ) → k < count → slice_index rows (256 * x + k) < atoms
@@ -43,7 +43,7 @@ pub record IsRow (atoms : ℕ) (square rows : List ℕ) (x count : ℕ) : Type 0
 abbrev pub AreRows : ℕ → List ℕ → List ℕ → List ℕ → Type 0
 AreRows atoms square rows counts = (x : ℕ) → x < atoms → IsRow atoms square rows x (slice_index counts x)
 
--- a graph, and what its expressions imply
+-- a graph, and the facts that its expressions imply
 pub record IsSheet (g : GraphTerm) (known : List Known) (square rows counts : List ℕ) : Type 0 where
   pub few : length g.atoms ≤ 256
   pub ends : IsSimplePattern (length g.atoms) g.bonds

@@ -17,12 +17,12 @@ of_label l = record { there = l.0 ∷ l.1 ∷ []; back = l.0 ∷ l.1 ∷ [] }
 abbrev pub longer_text : TextTerm → ℕ → ℕ × ℕ → TextTerm
 longer_text t byte l = record { there = l.0 ∷ l.1 ∷ byte ∷ t.back; back = t.there ++ byte ∷ l.0 ∷ l.1 ∷ [] }
 
--- so many bytes of a number, the highest first
+-- k bytes of a number, the highest first
 unfoldable pub digits : ℕ → ℕ → List ℕ
 digits zero n = []
 digits (suc k) n = digits k (n / 256) ++ (n % 256) ∷ []
 
--- what a text keeps about its fields
+-- facts that a text keeps about its fields
 pub record IsTextInside (count there back there_sum back_sum weight : ℕ) : Type 0 where
   pub few : count ≤ 14
   pub there_fits : there < 256 ^ count
@@ -47,7 +47,7 @@ abbrev pub text_in : PathTerm → Family → Option TextTerm
 text_in p exact = p.exact
 text_in p plain = p.plain
 
--- the text that goes on to one more atom, where the label is known
+-- the text that goes on to one more atom, if the label is known
 abbrev pub longer_if : Option TextTerm → ℕ → Option (ℕ × ℕ) → Option TextTerm
 longer_if text byte label = do
   t ← text
@@ -71,11 +71,11 @@ path_longer p atom byte known = record {
   plain = longer_if p.plain byte (label_of plain known);
 }
 
--- a text of that many atoms
+-- a text of `atoms` atoms
 abbrev pub IsLong : ℕ → Option TextTerm → Type 0
 IsLong atoms text = IfSome text (λ t. (length t.there + 1 ≡ 3 * atoms) × (length t.back + 1 ≡ 3 * atoms))
 
--- what a path keeps about its fields
+-- facts that a path keeps about its fields
 pub record IsPathInside (atoms : List ℕ) (count : ℕ) (exact_text plain_text : Option TextTerm) : Type 0 where
   pub some : 1 ≤ count
   pub short : count ≤ 5
@@ -101,7 +101,7 @@ abbrev pub grown : List ℕ → List ℕ → List ℕ
 grown atoms [] = atoms
 grown atoms (y ∷ ys) = grown (y ∷ reverse atoms) ys
 
--- the place before the middle of that many
+-- the place before the middle of n atoms
 abbrev pub before : ℕ → ℕ
 before n = n / 2 - 1
 
@@ -124,7 +124,7 @@ IsBitOf text bit = (t : TextTerm) × (text ≡ Some t) × (bit ≡ bit_of t.ther
 abbrev pub IsBitHere : PathTerm → ℕ → Type 0
 IsBitHere p bit = IsCounted p.atoms × ((family : Family) × IsBitOf (text_in p family) bit)
 
--- the bit of some path that grows from this one, if it is counted
+-- the bit of a path that grows from this one, if it is counted
 abbrev pub IsBitFrom : (Family → View) → List ℕ → ℕ → Type 0
 IsBitFrom views atoms bit = (family : Family) × (more there back : List ℕ)
     × IsPath (views family) (grown atoms more) there back × IsCounted (grown atoms more) × (bit ≡ bit_of there back)

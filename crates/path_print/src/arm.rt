@@ -1,7 +1,7 @@
 //! An arm of a path in one family of labels: the atoms between an end of the path and an atom in its middle.
 //!
-//! A path is two arms with an atom between. Its hash is found from what is kept of each arm, and which of its two
-//! strings is the lesser from the numbers of the arms: so nothing is worked out again for the paths that share an arm.
+//! A path is two arms with an atom between. Its hash is computed from the sums of both arms, and the lesser of its two
+//! strings from their numbers. So paths that share an arm share its work.
 ghost use Rattle.std.specs.Prelude.{◌≡◌, ◌+◌, ◌*◌, ◌%◌, ◌^◌, ◌<◌, ◌≤◌, ℕ, List, [], ◌∷◌, length, IsTrue};
 ghost use Rattle.path_print.specs.Path.{hash_of, lesser, bit_of};
 ghost use Rattle.path_print.specs.Arms.{Joint, IsHalf, IsHalfOf, IsBalanced, through};
@@ -11,20 +11,20 @@ use crate::text::{FACTOR, PRIME, SEED, SHIFTED, bit_from, sum_of};
 /// The most atoms of an arm.
 pub const LONGEST: usize = 2;
 
-// What a number is multiplied by, before three bytes are added.
+// The factor of a number before three bytes are added.
 const SHIFT: u64 = 256 * 256 * 256;
 
-// What a sum is multiplied by, before three bytes are added.
+// The factor of a sum before three bytes are added.
 const CUBE: u64 = FACTOR * FACTOR * FACTOR;
 
-/// What is kept of an arm of up to two atoms.
+/// The numbers and sums of an arm of up to two atoms.
 #[derive(Clone, Copy)]
 pub struct Half {
     /// Its bytes inward, as a number, the first one highest.
     pub number: u64,
     /// The hash of its bytes inward is the remainder of this.
     pub head: u64,
-    /// What its bytes outward add to a hash.
+    /// The addend of its bytes outward in a hash.
     pub tail: u64,
 }
 
@@ -36,7 +36,7 @@ impl Half {
         tail: 0,
     };
 
-    /// What stands for an arm before one is written.
+    /// The placeholder of an arm before one is written.
     pub const BLANK: Half = Half {
         number: 0,
         head: 0,
@@ -69,7 +69,7 @@ impl Half {
     }
 }
 
-/// The bit of the path of two arms with an atom of this label between. So many atoms are before it and behind it.
+/// The bit of the path of two arms with an atom of this label between, after the first arm and before the last.
 #[inline(always)]
 pub fn bit_between(first: &Half, label: (u8, u8), last: &Half, before: usize, behind: usize) -> u16
     requires first { IsHalfOf before first.now }
@@ -80,6 +80,7 @@ pub fn bit_between(first: &Half, label: (u8, u8), last: &Half, before: usize, be
         → IsHalf ks last.now → result ≡ bit_of (through js label ks) (through ks label js) }
     ensures small { result < 1024 }
 {
+    // Both sums are made before one is taken: to choose first took an eighth more time.
     let there = sum_through(first, label, last, behind);
     let back = sum_through(last, label, first, before);
     if is_back_lesser(first, label, last, before, behind) {
@@ -89,7 +90,7 @@ pub fn bit_between(first: &Half, label: (u8, u8), last: &Half, before: usize, be
     }
 }
 
-// Whether the string from the last arm to the first is to be taken. Where both are the same, either is.
+// True if the string from the last arm to the first is the lesser. If both are equal, either answer is right.
 #[inline(always)]
 fn is_back_lesser(first: &Half, label: (u8, u8), last: &Half, before: usize, behind: usize) -> bool
     requires first { IsHalfOf before first.now }
@@ -102,7 +103,7 @@ fn is_back_lesser(first: &Half, label: (u8, u8), last: &Half, before: usize, beh
         → IsHalf js first.now → IsHalf ks last.now
         → lesser (through js label ks) (through ks label js) ≡ through js label ks }
 {
-    // Of unequal arms what is compared ends before the byte of the bond from the longer one to the middle. Both strings
+    // Of unequal arms the comparison ends before the byte of the bond from the longer one to the middle. Both strings
     // have this byte there.
     if before == behind {
         last.number < first.number
@@ -111,7 +112,7 @@ fn is_back_lesser(first: &Half, label: (u8, u8), last: &Half, before: usize, beh
     }
 }
 
-// What the hash of the string from the first arm to the last, which has so many atoms, is the remainder of.
+// A number whose remainder is the hash of the string from the first arm to the last.
 #[inline(always)]
 fn sum_through(first: &Half, label: (u8, u8), last: &Half, behind: usize) -> u64
     requires first { (n : ℕ) × (n ≤ LONGEST) × IsHalfOf n first.now }
@@ -124,7 +125,7 @@ fn sum_through(first: &Half, label: (u8, u8), last: &Half, behind: usize) -> u64
     first.head * shift_of(behind) + middle + last.tail
 }
 
-// What the bytes before an arm of so many atoms are multiplied by, in a hash.
+// The factor, in a hash, of the bytes before an arm of `atoms` atoms.
 #[inline(always)]
 fn weight_of(atoms: usize) -> u64
     requires { atoms ≤ LONGEST }
@@ -138,7 +139,7 @@ fn weight_of(atoms: usize) -> u64
     }
 }
 
-// The same with the two bytes of a label between.
+// As `weight_of`, but with the two bytes of a label between.
 #[inline(always)]
 fn shift_of(atoms: usize) -> u64
     requires { atoms ≤ LONGEST }

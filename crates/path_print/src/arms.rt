@@ -15,9 +15,9 @@ pub const MOST_TWOS: usize = MOST_NEIGHBOURS * MOST_NEIGHBOURS;
 /// An arm in both families of labels.
 #[derive(Clone, Copy)]
 pub struct Arm {
-    /// The atom next to the middle; the middle itself where the arm has no atom.
+    /// The atom next to the middle; the middle itself if the arm has no atom.
     pub near: u16,
-    /// The atom at its end, the same where the arm has one atom or none.
+    /// The atom at its end; `near` if the arm has one atom or none.
     pub far: u16,
     pub exact: Half,
     pub plain: Half,
@@ -56,7 +56,7 @@ impl<'a> Middle<'a> {
 }
 
 impl Arm {
-    /// What fills a row before arms are written into it.
+    /// The filler of a row before arms are written into it.
     pub const BLANK: Arm = Arm {
         near: 0,
         far: 0,
@@ -117,7 +117,7 @@ impl Arm {
     }
 }
 
-/// Writes the arms of one atom in front. Returns how many there are.
+/// Writes the arms of one atom to the front of `ones`. Returns their number.
 #[inline(always)]
 pub fn gather_ones(ones: &mut [Arm], middle: &Middle) -> usize
     requires middle { IsMiddle middle.now }
@@ -134,7 +134,7 @@ pub fn gather_ones(ones: &mut [Arm], middle: &Middle) -> usize
     count
 }
 
-/// Writes the arms of two atoms in front. Returns how many there are.
+/// Writes the arms of two atoms to the front of `twos`. Returns their number.
 #[inline(always)]
 pub fn gather_twos(twos: &mut [Arm], ones: &[Arm], middle: &Middle) -> usize
     requires middle { IsMiddle middle.now }
@@ -152,7 +152,7 @@ pub fn gather_twos(twos: &mut [Arm], ones: &[Arm], middle: &Middle) -> usize
     count
 }
 
-// Writes the arms of two atoms that go on from one behind those that are there. Returns how many there are then.
+// Writes the arms of two atoms that go on from `one` after the first `start` arms. Returns the new number of arms.
 #[inline(always)]
 fn gather_behind(twos: &mut [Arm], start: usize, one: &Arm, middle: &Middle) -> usize
     requires middle { IsMiddle middle.now }

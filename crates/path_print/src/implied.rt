@@ -1,4 +1,4 @@
-//! What expressions imply of every atom and bond at which they are true.
+//! The facts that expressions imply of every atom and bond at which they are true.
 ghost use Rattle.std.specs.Prelude.{◌≡◌};
 ghost use Rattle.smarts_parse.specs.Pattern.{term_of};
 ghost use Rattle.path_print.specs.Implied.{implied, implied_byte, both, common, prim_implies, prim_byte};
@@ -9,7 +9,7 @@ use smarts_parse::{AtomPrim, BondPrim, Expr};
 /// The highest atomic number of an element.
 const HIGHEST: u16 = 103;
 
-/// What an atom expression implies.
+/// The number and aromaticity that an atom expression implies.
 pub fn implied(expr: &Expr<AtomPrim>) -> Known
     ensures { result ≡ implied (term_of expr.now) }
 {

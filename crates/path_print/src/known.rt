@@ -1,8 +1,8 @@
-//! What is known of an atom: its number, and whether it is aromatic.
+//! The known facts of an atom: its number, and whether it is aromatic.
 ghost use Rattle.std.specs.Prelude.{◌≡◌};
 ghost use Rattle.path_print.specs.Path.{exact, plain, label_of};
 
-/// What is known of an atom; `None` for what is not.
+/// The known facts of an atom; `None` for an unknown one.
 #[derive(Clone, Copy, Debug, PartialEq, Eq)]
 pub struct Known {
     /// The atomic number.

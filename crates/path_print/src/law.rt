@@ -13,14 +13,14 @@ ghost use Rattle.path_print.specs.Path.{Family, View, label_of, IsPath, bit_of};
 ghost use Rattle.path_print.specs.Implied.{implied, implied_byte};
 ghost use Rattle.path_print.specs.Prints.{molecule_view, graph_view, kind_byte, IsPrint, IsNeed};
 
-/// A law: where the pattern embeds in the molecule, the molecule's print holds what the pattern needs.
+/// A law: if the pattern embeds in the molecule, the molecule's print has the bits of the pattern's need.
 pub fn screen_law()
     ensures { (p : PatternTerm) (m : Molecule) (need print : List Bool)
         → IsMolecule m → IsNeed p need → IsPrint m print → Matches p m
         → (bit : ℕ) → HasBit need bit → HasBit print bit }
 {}
 
-/// A law: where an expression is true, the atom has the label that is implied, and the bond the byte.
+/// A law: if an expression is true, the atom has the label that is implied, and the bond the byte.
 pub fn implied_is_so()
     ensures atoms { (recs : List GraphTerm) (n : ℕ) (family : Family) (e : Term AtomPrim) (m : Molecule) (a : ℕ)
         (l : ℕ × ℕ) → AtomTrue (PartsHold recs m n) e m a → label_of family (implied e) ≡ Some l

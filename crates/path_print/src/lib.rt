@@ -1,7 +1,7 @@
 //! Prints of molecules and needs of patterns: the bits of their paths of up to five atoms.
 //!
-//! A molecule in which a pattern embeds has every bit that the pattern needs: this is the law by which most molecules
-//! are ruled out without a search.
+//! A molecule in which a pattern embeds has every bit that the pattern needs. By this law most molecules are ruled out
+//! without a search.
 #![tactic(auto)]
 
 mod arm;

@@ -56,8 +56,8 @@ fn mark_through(middle: &Middle, ones: &[Arm], twos: &[Arm], print: &mut Print)
     mark_even(twos, middle, 2, print);
 }
 
-// Sets the bits of the paths with as many atoms before the middle as behind it. Of the two directions of each path one
-// is enough.
+// Sets the bits of the paths with equally many atoms before and after the middle. Of the two directions of each path
+// one is enough.
 #[inline(always)]
 fn mark_even(row: &[Arm], middle: &Middle, atoms: usize, print: &mut Print)
     requires middle { IsMiddle middle.now }
@@ -71,7 +71,7 @@ fn mark_even(row: &[Arm], middle: &Middle, atoms: usize, print: &mut Print)
     }
 }
 
-// Sets the bits of the paths with one atom more before the middle than behind it, if the one next to it is lower.
+// Sets the bits of the paths with one atom more before the middle than after it, if the one next to it is lower.
 #[inline(always)]
 fn mark_odd(longer: &[Arm], middle: &Middle, row: &[Arm], behind: usize, print: &mut Print)
     requires middle { IsMiddle middle.now }
@@ -115,7 +115,7 @@ fn mark_from(
     }
 }
 
-// Whether no atom of an arm is in the other.
+// True if no atom of an arm is in the other.
 #[inline(always)]
 fn are_apart(first: &Arm, last: &Arm, before: usize, behind: usize) -> bool
     requires first { before ≤ 1 → first.now.far ≡ first.now.near }

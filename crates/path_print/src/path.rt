@@ -1,6 +1,6 @@
 //! Paths under way: the atoms so far, and the text in each family of labels.
 //!
-//! A path grows from its middle atom at its two ends in turn: it goes on to one more atom and is turned, so that it
+//! A path grows from its middle atom at its two ends in turn. It goes on to one more atom and is turned, so that it
 //! goes on at its other end next. So each path comes up once, and few are begun in vain.
 ghost use Rattle.std.specs.Prelude.{◌≡◌, ◌<◌, ◌≤◌, ◌+◌, ◌⊎◌, ◌↔◌, ◌∷◌, length, take, reverse, Contains, None, IsTrue, IfSome, IfNone, option_map};
 ghost use Rattle.chem_core.specs.Bits.{HasBit};
@@ -15,7 +15,7 @@ use std::marker::Model;
 /// The most atoms of a path.
 pub const MOST: usize = 5;
 
-/// One atom may follow, and behind it those of `W`.
+/// One atom may follow, and after it those of `W`.
 pub struct More<W>(W);
 
 /// A path under way. Contracts see its atoms and its texts.
@@ -51,7 +51,7 @@ impl Path {
         }
     }
 
-    /// Whether it has five atoms.
+    /// True if it has five atoms.
     #[inline(always)]
     pub fn is_full(&self) -> bool
         ensures { IsTrue result ↔ (length self.now.atoms ≡ MOST) }
@@ -67,7 +67,7 @@ impl Path {
         self.atoms[self.count - 1]
     }
 
-    /// Whether it is counted in this direction.
+    /// True if it is counted in this direction.
     #[inline(always)]
     fn is_counted(&self) -> bool
         ensures { IsTrue result ↔ IsCounted self.now.atoms }
@@ -76,7 +76,7 @@ impl Path {
         self.atoms[before] <= self.atoms[self.count - 1 - before]
     }
 
-    /// Whether no longer path is counted that grows from it.
+    /// True if no longer path is counted that grows from it.
     #[inline(always)]
     pub fn is_spent(&self) -> bool
         ensures { IsTrue result ↔ IsSpent self.now.atoms }
@@ -89,8 +89,8 @@ impl Path {
         }
     }
 
-    /// The path that goes on to an atom by a bond with this byte, turned. `None` where it is full, where the atom is in
-    /// it, and where it has no text.
+    /// The path that goes on to an atom by a bond with this byte, turned. `None` if it is full, if the atom is in it,
+    /// or if it has no text.
     #[inline(always)]
     pub fn longer(&self, atom: u16, byte: u8, known: Known) -> Option<Path>
         ensures value { IfSome result (λ p. p ≡ path_longer self.now atom byte known) }
@@ -131,7 +131,7 @@ impl Path {
         }
     }
 
-    // Whether the atom is in it. There is no slice and no loop, so that the compiler keeps the atoms in registers.
+    // True if the atom is in it. There is no slice and no loop, so that the compiler keeps the atoms in registers.
     #[inline(always)]
     fn has(&self, atom: u16) -> bool
         ensures { IsTrue result ↔ Contains self.now.atoms atom }

@@ -1,7 +1,8 @@
 //! The need of a pattern: the bits that every molecule has in which it embeds.
 //!
-//! What the expressions imply is worked out once: for each atom, and in a square for each two atoms. So are the
-//! neighbours of each atom, those side by side that give a path the same texts: of these one or two are enough.
+//! The labels and bytes that the expressions imply are computed once: for each atom, and in a square for each two
+//! atoms. So are the neighbours of each atom. Those that give a path the same texts are side by side, and one or two of
+//! them are enough.
 ghost use Rattle.std.specs.Prelude.{All, ◌≡◌, ◌≢◌, ◌⊎◌, ◌+◌, ◌*◌, ◌<◌, ◌≤◌, ℕ, true, Some, ◌∷◌, length, reverse, slice_index, slice_set, IfSome, IfNone, IsTrue};
 ghost use Rattle.chem_core.specs.Bits.{HasBit};
 ghost use Rattle.smarts_parse.specs.Pattern.{pattern_of, graph_of};
@@ -46,7 +47,7 @@ pub fn need(pattern: &Pattern) -> Print
     print
 }
 
-// What each atom implies.
+// The facts that each atom implies.
 fn known_atoms(graph: &Graph) -> [Known; SIDE]
     requires { length (graph_of graph.now).atoms ≤ SIDE }
     ensures known { AreKnown (graph_of graph.now) result }
@@ -84,23 +85,23 @@ fn write(square: &mut [u8], a: usize, b: usize, byte: u8)
     square[SIDE * b + a] = byte;
 }
 
-/// A pattern's graph and what its expressions imply, as the walks read it.
+/// A pattern's graph and the facts that its expressions imply, as the walks read it.
 #[derive(Clone, Copy)]
 pub struct Sheet<'s> {
     pub graph: &'s Graph,
-    /// What each atom implies.
+    /// The facts that each atom implies.
     pub known: &'s [Known],
-    /// For two atoms the byte of the bond between them, and 0 where none is implied.
+    /// For two atoms the byte of the bond between them, and 0 if no byte is implied.
     pub square: &'s [u8],
     /// In each row of the square the neighbours of an atom, those that are reached by the same step side by side.
     pub rows: &'s [u8],
-    /// How many neighbours each atom has.
+    /// The number of neighbours of each atom.
     pub counts: &'s [u16],
 }
 
 // The walk on from a path, one for each number of atoms that may still follow, as for molecules.
 trait Walk {
-    // how many atoms may follow
+    // the number of atoms that may follow
     ghost left: { ℕ };
 
     // Sets the bits of all paths that grow from this one.
@@ -134,8 +135,8 @@ impl<W: Walk> Walk for More<W> {
     }
 }
 
-// Two atoms may follow. Where many steps give the path the same texts, two of them are enough: what follows the others
-// follows one of the two.
+// Two atoms may follow. If several steps give the path the same texts, two of them are enough: atoms that follow the
+// others follow one of the two.
 struct LastTwo;
 
 impl Walk for LastTwo {
@@ -182,7 +183,7 @@ impl Walk for Last {
 pub struct Twins {
     pub step: Step,
     pub first: u16,
-    /// Whether the same step led to a second atom, and from it on to the first.
+    /// True if the same step led to a second atom, and from it on to the first.
     pub both: bool,
 }
 
@@ -234,7 +235,7 @@ fn twins_by(twins: Option<Twins>, step: Step) -> Option<Twins>
     if pair.step == step { Some(pair) } else { None }
 }
 
-// The same where the step is that of the twins: only what goes on from the atom to the first twin can be new.
+// As `mark_two`, if the step is that of the twins: only paths from the atom on to the first twin can be new.
 #[inline(always)]
 fn mark_twin(sheet: &Sheet, path: &Path, atom: u16, twins: Twins, print: &mut Print) -> Twins
     requires sheet { IsReady sheet.now }
@@ -263,7 +264,7 @@ fn mark_twin(sheet: &Sheet, path: &Path, atom: u16, twins: Twins, print: &mut Pr
     }
 }
 
-// Whether there are two twins, or the atom is the first.
+// True if there are two twins, or the atom is the first.
 #[inline(always)]
 fn is_marked(twins: &Twins, atom: u16) -> bool
     ensures yes { IsTrue result → (twins.now.both ≡ true) ⊎ (atom ≡ twins.now.first) }
@@ -327,7 +328,7 @@ fn mark_end(
     }
 }
 
-// The path that goes on to an atom. `None` where no path does.
+// The path that goes on to an atom. `None` if no path does.
 #[inline(always)]
 fn path_to(sheet: &Sheet, path: &Path, atom: u16) -> Option<Path>
     requires sheet { IsReady sheet.now }
@@ -341,7 +342,7 @@ fn path_to(sheet: &Sheet, path: &Path, atom: u16) -> Option<Path>
     path.longer(atom, step.byte, step.known)
 }
 
-// The step to an atom. `None` where no bond to it has a byte.
+// The step to an atom. `None` if no bond to it has a byte.
 #[inline(always)]
 fn step_to(sheet: &Sheet, path: &Path, atom: u16) -> Option<Step>
     requires sheet { IsReady sheet.now }
@@ -359,7 +360,7 @@ fn step_to(sheet: &Sheet, path: &Path, atom: u16) -> Option<Step>
     Some(Step { byte, known })
 }
 
-// Whether all bits are set.
+// True if all bits are set.
 #[inline(always)]
 fn has_all(print: &Print) -> bool
     ensures { IsTrue result → (bit : ℕ) → bit < 1024 → HasBit print.now bit }

@@ -10,7 +10,7 @@ pub const SIDE: usize = 256;
 /// The places of the square.
 pub const PLACES: usize = SIDE * SIDE;
 
-// A neighbour, behind a number that those with the same byte and the same label share.
+// A number that neighbours with the same byte and the same label share, and then the neighbour.
 type Ranked = (u16, u8);
 
 /// Writes the neighbours of each atom into its row of a square, those that are reached by the same step side by side.
@@ -34,7 +34,7 @@ pub fn fill_rows(rows: &mut [u8], counts: &mut [u16], square: &[u8], known: &[Kn
     }
 }
 
-// Gathers the neighbours of an atom. Returns how many there are.
+// Gathers the neighbours of an atom. Returns their number.
 fn gather(ends: &mut [Ranked], square: &[u8], known: &[Known], atom: usize, atoms: usize) -> usize
     requires few { atoms ≤ SIDE }
     requires atom { atom < atoms }
@@ -71,7 +71,7 @@ fn rank(byte: u8, known: Known) -> u16
     15 * number + 5 * aromatic + u16::from(byte)
 }
 
-// Sorts the first neighbours, so many.
+// Sorts the first `count` neighbours.
 fn sort(ends: &mut [Ranked], count: usize)
     requires { count ≤ length ends.old }
     ensures same { IsPermutation (take count ends.old) (take count ends.new) }
@@ -80,7 +80,7 @@ fn sort(ends: &mut [Ranked], count: usize)
     ends[..count].sort_unstable();
 }
 
-// Writes the first neighbours, so many, into the row of an atom.
+// Writes the first `count` neighbours into the row of an atom.
 fn write_row(rows: &mut [u8], atom: usize, ends: &[Ranked], count: usize)
     requires atom { atom < SIDE }
     requires count { count ≤ SIDE }

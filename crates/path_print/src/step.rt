@@ -3,14 +3,14 @@ ghost use Rattle.std.specs.Prelude.{◌≡◌, Some, IsTrue};
 
 use crate::known::Known;
 
-/// What the texts of a path grow by: the byte of a bond, and what is known of the atom that it leads to.
+/// The growth of a path's texts: the byte of a bond, and the known facts of the atom that it leads to.
 #[derive(Clone, Copy, PartialEq, Eq)]
 pub struct Step {
     pub byte: u8,
     pub known: Known,
 }
 
-/// Whether it is the step that was marked last.
+/// True if it is the step that was marked last.
 #[inline(always)]
 pub fn is_again(marked: Option<Step>, step: Step) -> bool
     ensures { IsTrue result → marked ≡ Some step }

@@ -1,8 +1,7 @@
-//! The string of a path in its two directions, kept as two numbers, and what the hash of each is the remainder of.
+//! The string of a path in its two directions, kept as two numbers, and for each a sum whose remainder is its hash.
 //!
-//! A path grows and is turned. So the string there, which grows at its end, and its hash with it, is the string back of
-//! the longer path. The string back grows in front: the new bytes weigh as much as all bytes behind them make them
-//! weigh.
+//! A path grows and is turned. So the string there, which grows at its end with its hash, is the string back of the
+//! longer path. The string back grows at its front: the new bytes get the weight of all bytes after them.
 ghost use Rattle.std.specs.Prelude.{◌≡◌, ◌<◌, ◌≤◌, ◌+◌, ◌*◌, ◌%◌, length};
 ghost use Rattle.path_print.specs.Path.{bit_of};
 ghost use Rattle.path_print.specs.Texts.{of_label, longer_text};
@@ -12,13 +11,13 @@ use std::marker::Model;
 /// The hash is a remainder by this prime.
 pub const PRIME: u64 = 65521;
 
-/// What a hash starts with.
+/// The start of a hash.
 pub const SEED: u64 = 7;
 
-/// What the bytes so far are multiplied by, before the next byte is added.
+/// The factor of the bytes so far, before the next byte is added.
 pub const FACTOR: u64 = 131;
 
-/// How much more a hash starts with behind three bytes of value 0.
+/// The increase of a hash's start after three bytes of value 0.
 pub const SHIFTED: u64 = SEED * FACTOR * FACTOR * FACTOR - SEED;
 
 /// The string of a path in its two directions. Contracts see it as two lists of bytes.
@@ -30,7 +29,7 @@ pub struct Text {
     // The hash of each is the remainder of these.
     there_sum: u64,
     back_sum: u64,
-    // What a byte before the second string is multiplied by, in its hash.
+    // The factor of a byte before the second string, in its hash.
     weight: u64,
     length: u64,
 }
@@ -124,7 +123,7 @@ fn number_of(first: u8, second: u8, third: u8) -> u128
     65536 * u128::from(first) + 256 * u128::from(second) + u128::from(third)
 }
 
-/// What three bytes add to a hash, where they come last.
+/// The addend of three bytes at the end, in a hash.
 #[inline(always)]
 pub fn sum_of(first: u8, second: u8, third: u8) -> u64
     ensures { result ≡ 17161 * first + 131 * second + third }

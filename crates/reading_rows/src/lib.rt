@@ -1,5 +1,5 @@
-//! Worked tables of what is read: atoms, SMILES, molfiles, patterns, structures and their rings; and of what is asked of
-//! them: primitives, prints, likeness.
+//! Worked tables of readings: atoms, SMILES, molfiles, patterns, structures and their rings; and of tests of these:
+//! primitives, prints, likeness.
 #![tactic(auto)]
 
 #[cfg(test)]

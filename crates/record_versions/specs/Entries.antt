@@ -1,4 +1,4 @@
--- For callers: the entries of an identifier, which of them is read at a version, and which are dead.
+-- For callers: the entries of an identifier, the one that is read at a version, and the dead ones.
 use Rattle.std.specs.Prelude.{◌≡◌, ◌==◌, ◌≢◌, ◌++◌, ◌<◌, ◌≤◌, All, Bool, Contains, length, List, [], ◌∷◌, map, not, None, Option, Some, true, ℕ}
 use Rattle.std.specs.BTreeMap.{is_at}
 use Rattle.std.specs.Map.{lookup}
@@ -28,11 +28,11 @@ module _ {V : Type 0} where
   abbrev pub chain_of : List (ℕ × Row V) → ℕ → List (Entry V)
   chain_of chains id = entries_in (row_of chains id)
 
-  -- there is memory for one entry more of an identifier
+  -- there is memory for one more entry of an identifier
   abbrev pub IsReserved : ℕ → List (ℕ × Row V) → Type 0
   IsReserved id chains = IsSomeAnd (row_of chains id) (λ r. length r.entries < r.room)
 
-  -- the latest entry that is not after a version; none where all are after it
+  -- the latest entry that is not after a version; `None` if all are after it
   abbrev pub IsLatest : ℕ → List (Entry V) → Option (Entry V) → Type 0
   IsLatest version ks None = All (λ k. version < k.version) ks
   IsLatest version ks (Some k) = Contains ks k × (k.version ≤ version)
@@ -53,7 +53,7 @@ module _ {V : Type 0} where
   IsLeastDead live from chains (Some d) = IsUpTo from d × IsDead live chains d
       × ((p : ℕ × ℕ) → IsUpTo from p → IsDead live chains p → IsUpTo d p)
 
-  -- the least identifier from one on that has an entry; none where none has
+  -- the least identifier from `from` on that has an entry; `None` if no identifier has one
   abbrev pub IsLeastId : ℕ → List (ℕ × Row V) → Option ℕ → Type 0
   IsLeastId from chains None = (id : ℕ) → from ≤ id → chain_of chains id ≡ []
   IsLeastId from chains (Some least) = (from ≤ least) × (chain_of chains least ≢ [])
@@ -69,11 +69,11 @@ module _ {V : Type 0} where
       × ((k : Entry V) × Contains ks k × (k.version ≡ v) × ¬ IsRead live ks k)
       × ((k : Entry V) → Contains ks k → from ≤ k.version → k.version < v → IsRead live ks k)
 
--- a version from one on and before the next, where there is a next
+-- a version from `from` on and before the next, if there is a next
 abbrev pub IsBetween : ℕ → Option ℕ → ℕ → Type 0
 IsBetween from next version = (from ≤ version) × IfSome next (λ n. version < n)
 
--- whether one of these versions is
+-- true if one of these versions is between, false if each is not
 abbrev pub IsReadBefore : ℕ → Option ℕ → List ℕ → Bool → Type 0
 IsReadBefore from next live true = (version : ℕ) × Contains live version × IsBetween from next version
 IsReadBefore from next live _ = All (λ version. ¬ IsBetween from next version) live

@@ -1,4 +1,4 @@
--- For private clauses alone: what contracts see of entries, however they lie.
+-- For private clauses alone: the view of entries, in each layout.
 use Rattle.std.specs.Prelude.{[], ◌∷◌}
 use Rattle.record_versions.specs.Rows.{Row}
 use Rattle.record_versions.specs.declared.entries.Form.{Form}

@@ -8,7 +8,7 @@ use crate::entries::{Entries, Entry};
 use std::alloc::{AllocError, Global};
 use std::marker::Model;
 
-/// Contracts see the entries, and for how many there is room.
+/// Contracts see the entries, and the number that there is room for.
 #[derive(Drop)]
 pub struct Chain<V> {
     entries: Entries<V>,
@@ -27,7 +27,7 @@ impl<V> Model for Chain<V> {
 }
 
 impl<V: Drop> Chain<V> {
-    /// Without entries.
+    /// A chain without entries.
     pub fn new(alloc: Global) -> Chain<V>
         ensures { result.entries ≡ [] }
     {
@@ -36,7 +36,7 @@ impl<V: Drop> Chain<V> {
         }
     }
 
-    /// Takes room for one entry more.
+    /// Takes room for one more entry.
     pub fn reserve(&mut self) -> Result<(), AllocError>
         ensures entries { self.new.entries ≡ self.old.entries }
         ensures grows { self.old.room ≤ self.new.room }
@@ -45,7 +45,7 @@ impl<V: Drop> Chain<V> {
         self.entries.reserve_one()
     }
 
-    /// One entry more, later than the others.
+    /// Adds an entry, later than the others.
     pub fn add(&mut self, version: u32, value: V)
         requires room { length self.old.entries < self.old.room }
         requires later { All (λ k. k.version < version) self.old.entries }
@@ -54,7 +54,7 @@ impl<V: Drop> Chain<V> {
         self.entries.push_reserved(Entry { version, value });
     }
 
-    /// The latest entry that is not after a version.
+    /// The latest entry that is not after a version; `None` if all are after it.
     pub fn latest(&self, version: u32) -> Option<&Entry<V>>
         ensures latest { IsLatest version self.now.entries (option_copied result) }
         ensures ascending { AllPairs (λ k l. k.version < l.version) self.now.entries }
@@ -62,7 +62,7 @@ impl<V: Drop> Chain<V> {
         self.entries.latest(version)
     }
 
-    /// Takes the entry of a version out, where there is one.
+    /// Removes the entry of a version, if there is one, and returns its value.
     pub fn take(&mut self, version: u32) -> Option<V>
         ensures entries { self.new.entries ≡ filter (is_other version) self.old.entries }
         ensures room { self.new.room ≡ self.old.room }
@@ -79,7 +79,7 @@ impl<V: Drop> Chain<V> {
         Some(value)
     }
 
-    /// The least version from `from` on whose entry is the latest at none of some versions.
+    /// The least version from `from` on whose entry is the latest at none of the versions `live`.
     pub fn unread_from(&self, from: u32, live: &[u32]) -> Option<u32>
         ensures { IsLeastUnread live.now from self.now.entries result }
     {
@@ -93,7 +93,7 @@ impl<V: Drop> Chain<V> {
     }
 }
 
-// How many entries are before a version.
+// The number of entries before a version.
 fn before<V: Drop>(entries: &Entries<V>, version: u32) -> usize
     requires { AllPairs (λ k l. k.version < l.version) entries.now.entries }
     ensures within { result ≤ length entries.now.entries }
@@ -107,7 +107,7 @@ fn before<V: Drop>(entries: &Entries<V>, version: u32) -> usize
     }
 }
 
-// The version of the entry at a place, where there is one.
+// The version of the entry at a place, if there is one.
 fn version_at<V: Drop>(entries: &Entries<V>, place: usize) -> Option<u32>
     ensures { MatchOption result (length entries.now.entries ≤ place)
         (λ v. (place < length entries.now.entries)
@@ -116,7 +116,7 @@ fn version_at<V: Drop>(entries: &Entries<V>, place: usize) -> Option<u32>
     Some(entries.get(place)?.version)
 }
 
-// Whether one of these versions is from `from` on and before the next entry's, where one follows.
+// True if one of the versions `live` is at or after `from`, and before that of the next entry if one follows.
 fn is_read(from: u32, next: Option<u32>, live: &[u32]) -> bool
     ensures { IsReadBefore from next live.now result }
 {

@@ -1,4 +1,4 @@
-//! The entries of all identifiers, and which of them nobody reads any more.
+//! The entries of all identifiers, and those of them that no version in use reads.
 ghost use Rattle.std.specs.Prelude.{◌≡◌, ◌==◌, ◌≢◌, ◌+◌, ◌++◌, ◌<◌, ◌≤◌, ℕ, [], ◌∷◌, All, Contains, MatchOption, None, OnOk, Some, filter, if◌then◌else◌, length};
 ghost use Rattle.std.specs.List.{AllPairs};
 ghost use Rattle.record_versions.specs.Entries.{IsLatest, IsLeastDead, IsLeastId, IsReserved, chain_of, entries, is_other};
@@ -33,7 +33,7 @@ impl<V> Model for Chains<V> {
 }
 
 impl<V: Drop> Chains<V> {
-    /// Without entries. It takes no memory.
+    /// Chains without entries. It takes no memory.
     pub fn new(alloc: Global) -> Chains<V>
         ensures { result ≡ [] }
     {
@@ -44,7 +44,7 @@ impl<V: Drop> Chains<V> {
         }
     }
 
-    /// Takes the memory of one entry more of an identifier. What was reserved for others stays reserved.
+    /// Takes the memory of one more entry of an identifier. Memory that was reserved for others stays reserved.
     pub fn reserve(&mut self, id: u32) -> Result<(), AllocError>
         ensures ok { OnOk result (IsReserved id self.new) }
         ensures entries { entries self.new ≡ entries self.old }
@@ -62,7 +62,7 @@ impl<V: Drop> Chains<V> {
         }
     }
 
-    /// One entry more, whose version exceeds the identifier's others. It takes no memory.
+    /// Adds an entry, whose version exceeds the identifier's others. It takes no memory.
     pub fn add(&mut self, id: u32, version: u32, value: V)
         requires reserved { IsReserved id self.old }
         requires later { All (λ k. k.version < version) (chain_of self.old id) }
@@ -79,8 +79,8 @@ impl<V: Drop> Chains<V> {
         }
     }
 
-    /// The version and the value of an identifier's latest entry that is not after `version`. `None` exactly where no
-    /// entry of the identifier is at or before `version`. It takes one step, and no memory.
+    /// The version and the value of an identifier's latest entry that is not after `version`; `None` only if no entry
+    /// of the identifier is at or before `version`. It takes one step, and no memory.
     pub fn at<L: Ledger>(&self, id: u32, version: u32, steps: &mut Steps<L>) -> Option<(u32, &V)>
         ensures latest { MatchOption result (IsLatest version (chain_of self.now id) None)
             (λ r. IsLatest version (chain_of self.now id) (Some (record { version = r.0; value = r.1.now }))) }
@@ -92,7 +92,7 @@ impl<V: Drop> Chains<V> {
         Some((entry.version, &entry.value))
     }
 
-    /// What looks at one identifier after another, from one on.
+    /// A finder for one identifier after another, from `id` on.
     pub fn finder(&self, id: u32) -> Finder<'_, V>
         ensures { result ≡ self.now }
     {
@@ -100,15 +100,15 @@ impl<V: Drop> Chains<V> {
     }
 
     /// The identifier and the version of the least entry that is not the latest of its identifier at any version of
-    /// `live`. `None` exactly where there is none. It takes no memory.
+    /// `live`; `None` only if there is no such entry. It takes no memory.
     pub fn dead(&self, live: &[u32]) -> Option<(u32, u32)>
         ensures { IsLeastDead live.now (0, 0) self.now result }
     {
         self.dead_from((0, 0), live)
     }
 
-    /// The same from a place on: an identifier and a version. Taking one dead entry out leaves each other one as dead
-    /// or alive as it was, so a prune goes on from the last one taken.
+    /// As `dead`, but from a place on: an identifier and a version. Removing a dead entry leaves each other one as dead
+    /// or alive as it was, so a prune goes on from the last one removed.
     pub fn dead_from(&self, from: (u32, u32), live: &[u32]) -> Option<(u32, u32)>
         ensures { IsLeastDead live.now from self.now result }
     {
@@ -120,7 +120,7 @@ impl<V: Drop> Chains<V> {
         None
     }
 
-    /// The least identifier from `from` on that has an entry. `None` exactly where none has one. It takes no memory.
+    /// The least identifier from `from` on that has an entry; `None` only if no identifier has one. It takes no memory.
     pub fn next_id(&self, from: u32) -> Option<u32>
         ensures { IsLeastId from self.now result }
     {
@@ -129,7 +129,7 @@ impl<V: Drop> Chains<V> {
         Some(id)
     }
 
-    /// Takes an entry out and gives its value. `None` exactly where the entry is not there. It takes no memory.
+    /// Removes an entry and returns its value; `None` only if the entry is not there. It takes no memory.
     pub fn take(&mut self, id: u32, version: u32) -> Option<V>
         ensures value { MatchOption result (All (λ k. k.version ≢ version) (chain_of self.old id))
             (λ v. Contains (chain_of self.old id) (record { version = version; value = v })) }
@@ -144,7 +144,7 @@ impl<V: Drop> Chains<V> {
         Some(value)
     }
 
-    /// How many entries there are. It takes no memory.
+    /// The number of entries. It takes no memory.
     pub fn kept(&self) -> u32
         ensures { result ≡ length (entries self.now) }
     {
@@ -152,7 +152,7 @@ impl<V: Drop> Chains<V> {
     }
 }
 
-// From which version on a chain is looked at.
+// The version from which a chain is searched.
 fn first_version(id: u32, from: (u32, u32)) -> u32
     ensures { result ≡ (if id == from.0 then from.1 else 0) }
 {

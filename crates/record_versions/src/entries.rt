@@ -1,4 +1,4 @@
-//! Entries in order. One alone takes no block of memory: a ring, behind a pointer, is taken where a second one comes.
+//! Entries in order. One alone takes no block of memory; for a second one a ring on the heap is taken.
 ghost use Rattle.std.specs.Prelude.{◌≡◌, ◌+◌, ◌++◌, ◌<◌, ◌≤◌, ◌↔◌, [], ◌∷◌, IfSome, IsSome, IfNone, OnOk, OnSome, length, option_copied, slice_index_or};
 ghost use Rattle.std.specs.List.{AllPairs, AllWithin, remove};
 ghost use Rattle.record_versions.specs.Entries.{IsLatest};
@@ -16,19 +16,19 @@ pub struct Entry<V> {
     pub value: V,
 }
 
-/// Contracts see the entries, and for how many there is room.
+/// Contracts see the entries, and the number that there is room for.
 #[derive(Drop)]
 pub(crate) struct Entries<V> {
     alloc: Global,
     form: Form<V>,
 }
 
-// How entries lie.
+// The layouts of entries.
 #[derive(Drop)]
 enum Form<V> {
     Empty,
     One(Entry<V>),
-    // any number of them: those that are taken out leave the ring behind
+    // any number of entries; the ring stays if entries are removed
     More(Box<Ring<V>>),
 }
 
@@ -42,7 +42,7 @@ impl<V> Model for Entries<V> {
 }
 
 impl<V: Drop> Entries<V> {
-    /// Without entries. It takes no memory.
+    /// No entries. It takes no memory.
     pub(crate) fn new(alloc: Global) -> Entries<V>
         ensures { result.entries ≡ [] }
     {
@@ -52,7 +52,7 @@ impl<V: Drop> Entries<V> {
         }
     }
 
-    /// How many entries there are.
+    /// The number of entries.
     pub(crate) fn len(&self) -> usize
         ensures { result ≡ length self.now.entries }
     {
@@ -63,7 +63,7 @@ impl<V: Drop> Entries<V> {
         }
     }
 
-    /// The entry at a place, where there is one.
+    /// The entry at a place, if there is one.
     pub(crate) fn get(&self, place: usize) -> Option<&Entry<V>>
         ensures variant { IsSome result ↔ (place < length self.now.entries) }
         ensures lookup { IfSome result (λ k. k.now ≡ slice_index_or self.now.entries place k.now) }
@@ -75,7 +75,7 @@ impl<V: Drop> Entries<V> {
         }
     }
 
-    /// Takes room for one entry more. The first one takes no memory.
+    /// Takes room for one more entry. The first one takes no memory.
     pub(crate) fn reserve_one(&mut self) -> Result<(), AllocError>
         ensures entries { self.new.entries ≡ self.old.entries }
         ensures grows { self.old.room ≤ self.new.room }
@@ -95,7 +95,7 @@ impl<V: Drop> Entries<V> {
         }
     }
 
-    /// One entry more, the newest.
+    /// Adds an entry, the newest.
     pub(crate) fn push_reserved(&mut self, entry: Entry<V>)
         requires { length self.old.entries < self.old.room }
         ensures entries { self.new.entries ≡ self.old.entries ++ entry ∷ [] }
@@ -107,7 +107,7 @@ impl<V: Drop> Entries<V> {
         }
     }
 
-    /// Takes the entry at a place out, where there is one.
+    /// Removes the entry at a place, if there is one.
     pub(crate) fn remove(&mut self, place: usize) -> Option<Entry<V>>
         ensures value { IfSome result (λ k. k ≡ slice_index_or self.old.entries place k) }
         ensures entries { OnSome result (self.new.entries ≡ remove self.old.entries place) }
@@ -127,7 +127,7 @@ impl<V: Drop> Entries<V> {
         }
     }
 
-    /// How many entries are not after a version. The newest is asked first.
+    /// The number of entries that are not after a version. The newest is read first.
     pub(crate) fn up_to(&self, version: u32) -> usize
         requires { AllPairs (λ k l. k.version < l.version) self.now.entries }
         ensures within { result ≤ length self.now.entries }
@@ -142,7 +142,7 @@ impl<V: Drop> Entries<V> {
         }
     }
 
-    /// The latest entry that is not after a version. The newest is asked first.
+    /// The latest entry that is not after a version; `None` if all are after it. The newest is read first.
     pub(crate) fn latest(&self, version: u32) -> Option<&Entry<V>>
         requires { AllPairs (λ k l. k.version < l.version) self.now.entries }
         ensures { IsLatest version self.now.entries (option_copied result) }

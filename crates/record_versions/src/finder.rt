@@ -1,4 +1,4 @@
-//! Looks for the chains of identifiers that ascend: each is looked for near the last one, before the map is searched.
+//! Finds the chains of ascending identifiers: each is looked for near the last one, before the map is searched.
 ghost use Rattle.std.specs.Prelude.{◌≡◌, ◌+◌, ◌<◌, ◌≤◌, [], IfSome, List, MatchOption, None, Some, ℕ};
 ghost use Rattle.std.specs.List.{AllPairs};
 ghost use Rattle.record_versions.specs.Entries.{IsLatest, chain_of};
@@ -12,15 +12,15 @@ use std::collections::btree_map::Range;
 use std::marker::Model;
 use std::sync::ledger::Ledger;
 
-// How many chains are gone over before the map is searched, at most.
+// The most chains that are passed before the map is searched.
 const NEAR: usize = 8;
 
-/// Looks at chains, fastest where each identifier is a little above the one before. Contracts see the chains.
+/// Finds chains, fastest if each identifier is a little above the one before. Contracts see the chains.
 #[derive(Drop)]
 pub struct Finder<'a, V> {
     chains: &'a BTreeMap<u32, Chain<V>>,
     ahead: Range<'a, u32, Chain<V>>,
-    // how many chains the next look goes over: one where the last look did not reach its chain so
+    // the number of chains that the next look passes: one if the last look did not reach its chain so
     reach: usize,
 }
 
@@ -48,8 +48,7 @@ impl<'a, V: Drop> Finder<'a, V> {
         }
     }
 
-    /// The version and the value of an identifier's latest entry that is not after `version`, as `Chains::at` says,
-    /// whatever was asked before. It takes one step, and no memory.
+    /// As `Chains::at`, whatever was asked before. It takes one step, and no memory.
     pub fn at<L: Ledger>(
         &mut self,
         id: u32,
@@ -67,7 +66,7 @@ impl<'a, V: Drop> Finder<'a, V> {
         Some((entry.version, &entry.value))
     }
 
-    // The chain of an identifier.
+    // The chain of an identifier, if it has one.
     fn find(&mut self, id: u32) -> Option<&'a Chain<V>>
         ensures chain { MatchOption result (chain_of self.old id ≡ [])
             (λ chain. chain_of self.old id ≡ chain.now.entries) }
@@ -83,7 +82,7 @@ impl<'a, V: Drop> Finder<'a, V> {
     }
 }
 
-// The chain of an identifier, where it is among the next few.
+// The chain of an identifier, if it is among the next `reach`.
 fn near<'a, V>(ahead: &mut Range<'a, u32, Chain<V>>, id: u32, reach: usize) -> Option<&'a Chain<V>>
     ensures own { (all : List (ℕ × Row V)) → AreOwn all ahead.old
         → AreOwn all ahead.new × IfSome result (λ chain. IsOwn all (id, chain.now)) }
@@ -97,7 +96,7 @@ fn near<'a, V>(ahead: &mut Range<'a, u32, Chain<V>>, id: u32, reach: usize) -> O
     None
 }
 
-// The chain of an identifier, where it is the next.
+// The chain of an identifier, if it is the next.
 fn first<'a, V>(ahead: &mut Range<'a, u32, Chain<V>>, id: u32) -> Option<&'a Chain<V>>
     requires { Rise id ahead.old }
     ensures own { (all : List (ℕ × Row V)) → AreOwn all ahead.old → AreOwn all ahead.new }

@@ -1,5 +1,5 @@
-//! Entries in order, the newest of which lies apart, where it is looked at first. The older ones lie in a ring, so that
-//! the oldest leave without moving the others.
+//! Entries in order. The newest is kept apart, since it is read first. The older ones are in a ring, so that the oldest
+//! leave without moving the others.
 ghost use Rattle.std.specs.Prelude.{◌≡◌, ◌+◌, ◌++◌, ◌<◌, ◌≤◌, ◌↔◌, [], ◌∷◌, IfOk, IfSome, IsSome, IfNone, OnOk, OnSome, length, option_copied, slice_index_or};
 ghost use Rattle.std.specs.List.{AllPairs, AllWithin, remove};
 ghost use Rattle.record_versions.specs.Entries.{IsLatest};
@@ -10,11 +10,11 @@ use std::collections::VecDeque;
 use std::marker::Model;
 use std::ops::Index;
 
-/// Contracts see the entries, and for how many there is room.
+/// Contracts see the entries, and the number that there is room for.
 #[derive(Drop)]
 pub(crate) struct Ring<V> {
     older: VecDeque<Entry<V>>,
-    // `None` where there is none, or where the newest was taken out
+    // `None` if there is no entry, or if the newest was removed
     newest: Option<Entry<V>>,
 }
 
@@ -33,7 +33,7 @@ impl<V> Model for Ring<V> {
 }
 
 impl<V> Ring<V> {
-    /// Without entries, and with room for two.
+    /// A ring without entries, with room for two.
     pub(crate) fn of_two(alloc: Global) -> Result<Ring<V>, AllocError>
         ensures entries { IfOk result (λ r. r.entries ≡ []) }
         ensures room { IfOk result (λ r. 2 ≤ r.room) }
@@ -44,7 +44,7 @@ impl<V> Ring<V> {
         })
     }
 
-    /// How many entries there are.
+    /// The number of entries.
     pub(crate) fn len(&self) -> usize
         ensures { result ≡ length self.now.entries }
     {
@@ -54,7 +54,7 @@ impl<V> Ring<V> {
         }
     }
 
-    /// Takes room for one entry more.
+    /// Takes room for one more entry.
     pub(crate) fn reserve_one(&mut self) -> Result<(), AllocError>
         ensures entries { self.new.entries ≡ self.old.entries }
         ensures grows { self.old.room ≤ self.new.room }
@@ -66,7 +66,7 @@ impl<V> Ring<V> {
         self.older.reserve(1)
     }
 
-    /// One entry more, the newest.
+    /// Adds an entry, the newest.
     pub(crate) fn push_reserved(&mut self, entry: Entry<V>)
         requires { length self.old.entries < self.old.room }
         ensures entries { self.new.entries ≡ self.old.entries ++ entry ∷ [] }
@@ -77,7 +77,7 @@ impl<V> Ring<V> {
         }
     }
 
-    /// Takes the entry at a place out, where there is one.
+    /// Removes the entry at a place, if there is one.
     pub(crate) fn remove(&mut self, place: usize) -> Option<Entry<V>>
         ensures value { IfSome result (λ k. k ≡ slice_index_or self.old.entries place k) }
         ensures entries { OnSome result (self.new.entries ≡ remove self.old.entries place) }
@@ -91,7 +91,7 @@ impl<V> Ring<V> {
         self.older.remove(place)
     }
 
-    /// How many entries are not after a version. The newest is asked first.
+    /// The number of entries that are not after a version. The newest is read first.
     pub(crate) fn up_to(&self, version: u32) -> usize
         requires { AllPairs (λ k l. k.version < l.version) self.now.entries }
         ensures within { result ≤ length self.now.entries }
@@ -105,7 +105,7 @@ impl<V> Ring<V> {
         }
     }
 
-    /// The latest entry that is not after a version. The newest is asked first.
+    /// The latest entry that is not after a version; `None` if all are after it. The newest is read first.
     pub(crate) fn latest(&self, version: u32) -> Option<&Entry<V>>
         requires { AllPairs (λ k l. k.version < l.version) self.now.entries }
         ensures { IsLatest version self.now.entries (option_copied result) }
@@ -137,7 +137,7 @@ impl<V> Index<usize> for Ring<V> {
     }
 }
 
-// How many of the older entries are not after a version.
+// The number of older entries that are not after a version.
 fn older_up_to<V>(older: &VecDeque<Entry<V>>, version: u32) -> usize
     requires { AllPairs (λ k l. k.version < l.version) older.now.items }
     ensures within { result ≤ length older.now.items }

@@ -2,8 +2,8 @@
 use std::marker::Model;
 use std::sync::ledger::{Blank, Book, Ledger, Share};
 
-/// How many kept entries were read. It takes no bytes. `Chains::at`, `Finder::at` and `Counted::read` each raise it by
-/// one. Nothing else raises it, and a kept entry's value is read by these three alone.
+/// The number of kept entries that were read. It takes no bytes. `Chains::at`, `Finder::at` and `Counted::read` each
+/// raise it by one. Nothing else raises it, and a kept entry's value is read by these three alone.
 #[derive(Drop)]
 pub struct Steps<L: Ledger> {
     book: Book<L>,
@@ -23,7 +23,7 @@ impl<L: Ledger> Model for Steps<L> {
 impl<L: Ledger> Steps<L> {
     ghost use Rattle.std.specs.Prelude.{◌≡◌, ◌+◌, ◌<◌};
 
-    /// None yet.
+    /// No steps yet.
     pub fn open(blank: Blank) -> Steps<L>
         requires name { blank.name ≡ L.name }
         requires parts { blank.parts ≡ L.parts }
@@ -34,7 +34,7 @@ impl<L: Ledger> Steps<L> {
         Steps { book, share }
     }
 
-    /// One more.
+    /// Adds one step.
     pub(crate) fn raise(&mut self)
         ensures { self.new ≡ self.old + 1 }
     {

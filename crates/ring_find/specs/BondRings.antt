@@ -1,8 +1,8 @@
--- The smallest ring through each bond, and bonds kept so that none of a ring is lost. For private clauses alone.
+-- The smallest ring through each bond, and kept bonds, with each ring bond among them. For private clauses alone.
 use Rattle.std.specs.Prelude.{◌≡◌, ◌≤◌, ◌<◌, ◌⊎◌, ℕ, Bool, true, false, List, length, slice_index, slice_index_or}
 use Rattle.chem_core.specs.Graph.{Ends, IsSimpleCycle, LiesOn, IsRingBond}
 
--- n is the least length of a simple cycle through the bond, and 0 where there is none
+-- n is the least length of a simple cycle through the bond, and 0 without one
 abbrev pub IsSmallestThrough : Ends → ℕ → ℕ → Type 0
 IsSmallestThrough ends b n = ((n ≡ 0) × ((atoms : List ℕ) → IsSimpleCycle ends atoms → LiesOn ends b atoms → ⊥))
     ⊎ ((atoms : List ℕ) × IsSimpleCycle ends atoms × LiesOn ends b atoms × (length atoms ≡ n)

@@ -11,7 +11,7 @@ LeadsDown ends labels b m = (x y : ℕ) × JoinsAt ends b x y × (slice_index la
 abbrev pub AreForest : Ends → List ℕ → Type 0
 AreForest ends labels = (b c m : ℕ) → LeadsDown ends labels b m → LeadsDown ends labels c m → b ≡ c
 
--- the same of the bonds below place k, and the labels from which one of them leads down are taken
+-- as `AreForest`, of the bonds below place k; the labels from which one of them leads down are taken
 pub record AreTaken (ends : Ends) (labels : List ℕ) (taken : List Bool) (k : ℕ) : Type 0 where
   pub each : (b m : ℕ) → b < k → LeadsDown ends labels b m → slice_index_or taken m false ≡ true
   pub once : (b c m : ℕ) → b < k → c < k → LeadsDown ends labels b m → LeadsDown ends labels c m → b ≡ c

@@ -8,9 +8,8 @@ use Rattle.ring_find.specs.Walk.{Walk, StepBut}
 abbrev pub mark_at : List ℕ → List ℕ → ℕ → ℕ
 mark_at marks queue i = slice_index marks (slice_index queue i)
 
--- A search from x whose first atoms of the queue, as many as next, have had their steps taken. A mark is one more than
--- the number of steps of some walk, and 0 where none is found; the queue rises by marks, which differ by at most one
--- from there on.
+-- A search from x that has taken the steps of the first `next` atoms of the queue. A mark is one more than the number
+-- of steps of a walk, and 0 if none is found. The queue rises by marks, which differ by at most one from there on.
 pub record IsSearch (Step : ℕ → ℕ → Type 0) (atoms x : ℕ) (marks queue : List ℕ) (next : ℕ) : Type 0 where
   pub size : length marks ≡ atoms
   pub count : length queue + count_by (λ m. m == 0) marks ≡ atoms

@@ -2,7 +2,7 @@
 use Rattle.std.specs.Prelude.{◌≡◌, ◌≢◌, ◌≤◌, ℕ, zero, suc, Bool, true, false, List, slice_index_or}
 use Rattle.chem_core.specs.Graph.{Ends, JoinsAt}
 
--- some kept bond other than b joins the atoms x and y
+-- a kept bond other than b joins the atoms x and y
 abbrev pub StepBut : Ends → List Bool → ℕ → ℕ → ℕ → Type 0
 StepBut ends kept b x y = (c : ℕ) × (c ≢ b) × (slice_index_or kept c false ≡ true) × JoinsAt ends c x y
 

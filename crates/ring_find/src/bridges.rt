@@ -1,8 +1,8 @@
 //! Bonds between rings are dropped, since no ring goes through them.
 //!
-//! A depth-first walk over the bonds gives each atom a label, one for all atoms that hang together by rings, so that a
-//! bond between two labels is a bridge. Nothing is promised of the labels. Bonds between labels are dropped where from
-//! each label at most one bond leads to a lower one: then no ring goes from one label to another and back.
+//! A depth-first walk over the bonds gives each atom a label, one for all atoms that hang together by rings. So a bond
+//! between two labels is a bridge. Nothing is promised of the labels. Bonds between labels are dropped only if each
+//! label has at most one bond to a lower label. Then no ring goes from one label to another and back.
 ghost use Rattle.std.specs.Prelude.{◌≡◌, ◌<◌, ◌+◌, ◌⊎◌, length, true, IfOk, MatchOption, Ok, OnOk};
 ghost use Rattle.chem_core.specs.Graph.{IsSimpleGraph};
 ghost use Rattle.ring_find.specs.BondRings.{KeepsRings};
@@ -12,13 +12,13 @@ use bumpalo::Bump;
 use chem_core::Adjacency;
 use std::alloc::AllocError;
 
-// In so few atoms a search over the bonds between rings costs no more than to find these.
+// With so few atoms a search over the bonds between rings costs no more than to find these bonds.
 const FEW_ATOMS: usize = 40;
 
-// Stands for a missing atom, bond or visit number.
+// A missing atom, bond or visit number.
 const NONE: u16 = u16::MAX;
 
-// How a depth-first walk comes to an atom: from which atom, and by which bond.
+// The way of a depth-first walk to an atom: the atom before it, and the bond.
 #[derive(Clone, Copy, Debug)]
 struct Way {
     to: u16,
@@ -33,7 +33,7 @@ struct Seen {
     number: u16,
     from: u16,
     bond: u16,
-    /// The least number that a bond leads to from here, or from what was reached by way of here.
+    /// The least number that a bond leads to from here, or from an atom reached by way of here.
     low: u16,
 }
 
@@ -71,7 +71,7 @@ fn drop_between(kept: &mut [bool], ends: &[(u16, u16)], labels: &[u16])
     }
 }
 
-// Whether from each label at most one bond leads to a lower one. It may answer `false` even if this holds.
+// True only if each label has at most one bond to a lower label. It may answer `false` even if this holds.
 fn is_forest(arena: &Bump, ends: &[(u16, u16)], labels: &[u16]) -> Result<bool, AllocError>
     requires { IsSimpleGraph (length labels.now) ends.now }
     ensures { result ≡ Ok true → AreForest ends.now labels.now }
@@ -246,7 +246,7 @@ fn low_of(graph: &Adjacency<'_>, atom: u16, visits: &[Seen]) -> u16
     low
 }
 
-// Labels an atom, where the atom that it was reached from is labelled: the same, if bonds lead back past that.
+// Labels an atom, if the atom that it was reached from has a label: with that label, if bonds lead back past it.
 fn label(atom: u16, visits: &[Seen], labels: &mut [u16]) {
     let Some(visit) = visits.get(usize::from(atom)) else {
         return;

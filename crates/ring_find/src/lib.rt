@@ -1,9 +1,9 @@
-//! Which bonds of a sketch are ring bonds, and the smallest ring of each atom.
+//! The ring bonds of a sketch, and the smallest ring of each atom.
 //!
-//! A bond lies on a ring exactly where a walk without it joins its ends, and the least such walk and the bond are the
-//! smallest ring through it. So one breadth-first search for each bond finds all, and one serves a chain of bonds.
-//! Bonds that lead to dead ends are stripped first, so a structure without rings costs one pass; then, where there are
-//! many atoms, bonds between rings are dropped, so that a search stays among rings that share bonds or atoms.
+//! A bond lies on a ring exactly if a walk without it joins its ends. The least such walk and the bond are the smallest
+//! ring through it. So one breadth-first search for each bond finds all, and one serves a chain of bonds. Bonds that
+//! lead to dead ends are stripped first, so a structure without rings costs one pass. Then, if there are many atoms,
+//! bonds between rings are dropped, so that a search stays among rings that share bonds or atoms.
 #![tactic(auto)]
 
 mod bridges;
@@ -26,10 +26,10 @@ use chem_core::{Adjacency, Sketch};
 pub use ring_facts::Rings;
 use std::alloc::{AllocError, Global};
 
-/// Which bonds are ring bonds, and the length of the smallest ring of each atom, 0 where it is in none.
+/// The ring bonds, and the length of the smallest ring of each atom, 0 if it is in no ring.
 ///
 /// A ring is a simple cycle. Fails only for want of memory. A sketch without rings takes time linear in its atoms and
-/// bonds, and so does a chain of small rings; at worst the time is the number of ring bonds times that of atoms and
+/// bonds, and so does a chain of small rings. At worst the time is the number of ring bonds times that of atoms and
 /// bonds.
 pub fn rings(alloc: Global, sketch: &Sketch) -> Result<Rings, AllocError>
     requires { IsSound sketch.now }
@@ -42,7 +42,7 @@ pub fn rings(alloc: Global, sketch: &Sketch) -> Result<Rings, AllocError>
     rings_in(alloc, &arena, &graph)
 }
 
-/// The same of an adjacency that is at hand, with working memory from an arena.
+/// As `rings`, but of a given adjacency, with working memory from an arena.
 pub fn rings_in(alloc: Global, arena: &Bump, graph: &Adjacency<'_>) -> Result<Rings, AllocError>
     ensures bonds { IfOk result (λ r. AreRingBonds graph.now.ends r.bond_in_ring.items) }
     ensures atoms { IfOk result (λ r. AreSmallestRings graph.now.atoms graph.now.ends r.atom_small.items) }
@@ -65,7 +65,7 @@ pub fn one_answer()
         → AreSmallestRings atoms ends xs → AreSmallestRings atoms ends ys → xs ≡ ys }
 {}
 
-// For each bond, whether its ring length is not 0.
+// For each bond, true if its ring length is not 0.
 fn nonzero(alloc: Global, lengths: &[u16]) -> Result<Vec<bool>, AllocError>
     ensures { IfOk result (λ flags. flags.items ≡ map (λ n. not (n == 0)) lengths.now) }
 {

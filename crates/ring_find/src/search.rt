@@ -1,5 +1,5 @@
-//! The smallest ring through each bond, by a breadth-first search from one of its ends to the other. Of two bonds at an
-//! atom where no third one is kept, both are on the same rings, so that one search serves a chain of them.
+//! The smallest ring through each bond, by a breadth-first search from one of its ends to the other. If an atom has
+//! exactly two kept bonds, both are on the same rings, so that one search serves a chain of bonds.
 ghost use Rattle.std.specs.Prelude.{◌≡◌, ◌≢◌, ◌≤◌, ◌<◌, ◌+◌, ℕ, length, replicate, slice_index, slice_get, All, Contains, Some, IfSome, IfOk, OnOk};
 ghost use Rattle.chem_core.specs.declared.adjacency.Step.{Step};
 ghost use Rattle.chem_core.specs.declared.limits.TheConstants.{MOST_ATOMS};
@@ -11,7 +11,7 @@ use bumpalo::Bump;
 use chem_core::{Adjacency, Step};
 use std::alloc::AllocError;
 
-/// For each bond the length of the smallest ring through it, 0 where there is none. Only kept bonds are walked.
+/// For each bond the length of the smallest ring through it, 0 without one. Only kept bonds are walked.
 pub fn ring_lengths<'a>(
     arena: &'a Bump,
     graph: &Adjacency<'_>,
@@ -31,8 +31,8 @@ pub fn ring_lengths<'a>(
     Ok(lengths)
 }
 
-// The length of the smallest ring through a bond, 0 where there is none. The lengths are those of the bonds before it.
-// No atom is marked, before and after.
+// The length of the smallest ring through a bond, 0 without one. The lengths are those of the bonds before it. No atom
+// is marked, before and after.
 fn ring_length(
     graph: &Adjacency<'_>,
     kept: &[bool],
@@ -69,7 +69,7 @@ fn ring_length(
     Ok(length)
 }
 
-// The length of the smallest ring through a bond, where it is that of a bond before.
+// The length of the smallest ring through a bond, if it is that of an earlier bond.
 fn known_length(graph: &Adjacency<'_>, kept: &[bool], lengths: &[u16], bond: u16) -> Option<u16>
     requires kept { KeepsRings graph.now.ends kept.now }
     requires bond { bond < length graph.now.ends }
@@ -84,8 +84,8 @@ fn known_length(graph: &Adjacency<'_>, kept: &[bool], lengths: &[u16], bond: u16
     }
 }
 
-// The length of the only kept bond of an atom beside the bond: where there is exactly one, all rings through the one
-// are rings through the other.
+// The length of the only other kept bond of an atom, if there is exactly one. All rings through the one bond are rings
+// through the other.
 fn length_beside(steps: &[Step], kept: &[bool], lengths: &[u16], bond: u16) -> Option<u16>
     requires within { All (λ s. s.bond < length kept.now) steps.now }
     ensures { IfSome result (λ length. (s : Step) × IsOnlyBeside steps.now kept.now bond s
@@ -95,7 +95,7 @@ fn length_beside(steps: &[Step], kept: &[bool], lengths: &[u16], bond: u16) -> O
     lengths.get(usize::from(step.bond)).copied()
 }
 
-// The one step by a kept bond other than this one, where there is exactly one.
+// The one step by a kept bond other than this one, if there is exactly one.
 fn only_beside(steps: &[Step], kept: &[bool], bond: u16) -> Option<Step>
     requires within { All (λ s. s.bond < length kept.now) steps.now }
     ensures { IfSome result (IsOnlyBeside steps.now kept.now bond) }
@@ -112,7 +112,7 @@ fn only_beside(steps: &[Step], kept: &[bool], bond: u16) -> Option<Step>
     only
 }
 
-// Whether a bond is kept and is another than this one.
+// True if a bond is kept and is another than this one.
 fn is_beside(kept: &[bool], bond: u16, other: u16) -> bool
     requires { other < length kept.now }
     ensures { result ≡ is_beside kept.now bond other }

@@ -7,7 +7,7 @@ ghost use Rattle.ring_find.specs.Least.{IsLesser};
 use chem_core::Adjacency;
 use std::alloc::{AllocError, Global};
 
-/// For each atom the length of its smallest ring, the least of its bonds' lengths; 0 where it is in none.
+/// For each atom the length of its smallest ring, the least of its bonds' lengths; 0 if it is in no ring.
 pub fn smallest_rings(
     alloc: Global,
     graph: &Adjacency<'_>,
@@ -24,7 +24,7 @@ pub fn smallest_rings(
     Ok(small)
 }
 
-// Lowers the lengths of a bond's two ends to the bond's, where that is less.
+// Lowers the lengths of a bond's two ends to the bond's, if that is less.
 fn lower_ends(small: &mut [u16], ends: (u16, u16), ring: u16)
     requires one { ends.0 < length small.old }
     requires other { ends.1 < length small.old }

@@ -8,7 +8,7 @@ use bumpalo::Bump;
 use chem_core::{Adjacency, Step};
 use std::alloc::AllocError;
 
-/// For each bond whether it is kept: each ring bond is, and no atom is left as a dead end.
+/// For each bond, true if it is kept: each ring bond is, and no atom is left as a dead end.
 pub fn strip_dead_ends<'a>(
     arena: &'a Bump,
     graph: &Adjacency<'_>,
@@ -38,7 +38,7 @@ fn strip_from(graph: &Adjacency<'_>, kept: &mut [bool], atom: u16)
     }
 }
 
-// The one step by a kept bond, where there is exactly one.
+// The one step by a kept bond, if there is exactly one.
 fn only_kept(steps: &[Step], kept: &[bool]) -> Option<Step>
     requires within { All (λ s. s.bond < length kept.now) steps.now }
     requires once { AllPairs (λ s t. s.bond ≢ t.bond) steps.now }

@@ -29,16 +29,16 @@ module _ {V : Type 0} where
   Ascend r [] = Unit {0}
   Ascend r (x ∷ xs) = (r ≤ rank_of x) × Ascend (rank_of x + 1) xs
 
-  -- no pair stands at a place
+  -- no pair is at a place
   abbrev pub Lacks : ℕ → List (Screened V) → Type 0
   Lacks r xs = All (λ x. rank_of x ≢ r) xs
 
-  -- of which no later version is known
+  -- a pair of which no later version is known
   abbrev pub new_pair : ℕ → ℕ → List Bool → V → Screened V
   new_pair id version print value = record
       { id = id; version = version; until = 4294967295; value = value; print = print }
 
-  -- a pair put in before the first that comes after it
+  -- a pair inserted before the first that comes after it
   abbrev pub put_in : Screened V → List (Screened V) → List (Screened V)
   put_in x [] = x ∷ []
   put_in x (y ∷ ys) = if nat_lt (rank_of x) (rank_of y) then x ∷ y ∷ ys else y ∷ put_in x ys
@@ -50,16 +50,16 @@ module _ {V : Type 0} where
   abbrev pub superseded : ℕ → ℕ → List (Screened V) → List (Screened V)
   superseded r until xs = map (ends_at r until) xs
 
-  -- it stands at none of these places
+  -- it is at none of these places
   abbrev pub is_apart : List (ℕ × ℕ) → Screened V → Bool
   is_apart [] x = true
   is_apart (p ∷ ps) x = not (rank_of x == rank p.0 p.1) && is_apart ps x
 
-  -- it stands at or after a place, and its print holds what is wanted
+  -- it is at or after a place, and its print holds the wanted bits
   abbrev pub IsWanted : List Bool → ℕ → Screened V → Type 0
   IsWanted want from x = (from ≤ rank_of x) × Holds x.print want
 
-  -- the least pair that is wanted; none where no pair is
+  -- the least wanted pair; `None` if no pair is wanted
   abbrev pub IsNext : List Bool → ℕ → List (Screened V) → Option (Screened V) → Type 0
   IsNext want from xs None = All (λ x. ¬ IsWanted want from x) xs
   IsNext want from xs (Some x) = Contains xs x × IsWanted want from x
@@ -69,7 +69,7 @@ module _ {V : Type 0} where
   abbrev pub AreCovered : List Bool → List (Screened V) → Type 0
   AreCovered print xs = All (λ x. Holds print x.print) xs
 
-  -- in which column a pair is noted: numbers that follow each other are spread over the columns
+  -- the column in which a pair is noted: consecutive numbers are spread over the columns
   abbrev pub column_of : Screened V → ℕ
   column_of x = (x.id * 2654435769 + x.version * 374761393) / 67108864 % 64
 
@@ -77,7 +77,7 @@ module _ {V : Type 0} where
   abbrev pub AreNoted : List Bool → List (Screened V) → Type 0
   AreNoted rows xs = All (λ x. Notes rows x.print (column_of x)) xs
 
-  -- whether the last pair is before a place
+  -- true if the last pair is before a place, or if there is no pair
   abbrev pub ends_before : ℕ → List (Screened V) → Bool
   ends_before r [] = true
   ends_before r (x ∷ []) = nat_lt (rank_of x) r
@@ -91,7 +91,7 @@ module _ {V : Type 0} where
   abbrev pub AreBlocks : List (List (Screened V)) → Type 0
   AreBlocks blocks = Ascend 0 (joined blocks) × All (λ b. 0 < length b) blocks
 
--- what contracts see of an index: its pairs, and the print and the value that memory was taken for
+-- the view of an index: its pairs, and the print and the value that memory was taken for
 pub record IndexTerm (V : Type 0) : Type 0 where
   pub entries : List (Screened V)
   pub reserved : Option (List Bool × V)

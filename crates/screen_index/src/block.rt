@@ -1,4 +1,5 @@
-//! A run of pairs in ascending order, with a union of their prints, and rows that tell which may hold what is wanted.
+//! A block of pairs in ascending order, with a union of their prints, and rows that show the pairs that may hold the
+//! wanted bits.
 ghost use Rattle.std.specs.Prelude.{◌≡◌, ◌+◌, ◌++◌, ◌<◌, ◌≤◌, [], All, IfOk, IsTrue, false, filter, length, map, option_copied, vec_capacity};
 ghost use Rattle.std.specs.List.{AllWithin};
 ghost use Rattle.screen_index.specs.declared.entry.Screened.{Screened};
@@ -13,10 +14,10 @@ use chem_core::Print;
 use std::alloc::{AllocError, Global};
 use std::marker::Model;
 
-/// For how many pairs a block has room.
+/// The number of pairs that a block has room for.
 pub const ROOM: usize = 256;
 
-// How many pairs behind an answer are looked at before the rows are asked.
+// The number of pairs after an answer that are read one by one before the rows are used.
 const NEAR: usize = 32;
 
 /// Contracts see the pairs. The union holds the print of each of them, and maybe bits of others that were there.
@@ -24,7 +25,7 @@ const NEAR: usize = 32;
 pub struct Block<V> {
     entries: Vec<Screened<V>>,
     union: Print,
-    // of each pair its column
+    // the column of each pair
     columns: Vec<u8>,
     rows: Rows,
 }
@@ -47,7 +48,7 @@ impl<V> Model for Block<V> {
 }
 
 impl<V: Drop> Block<V> {
-    /// Without pairs.
+    /// A block without pairs.
     pub fn new(alloc: Global) -> Result<Block<V>, AllocError>
         ensures { IfOk result (λ b. b ≡ []) }
     {
@@ -66,7 +67,7 @@ impl<V: Drop> Block<V> {
         self.entries.len()
     }
 
-    /// Whether the last pair is before a place.
+    /// True if the last pair is before a place, or if there is no pair.
     pub fn ends_before(&self, place: (u32, u32)) -> bool
         ensures { result ≡ ends_before (rank place.0 place.1) self.now }
     {
@@ -74,7 +75,7 @@ impl<V: Drop> Block<V> {
         len == 0 || self.entries[len - 1].is_before(place)
     }
 
-    // How many pairs are before a place.
+    // The number of pairs before a place.
     fn count_before(&self, place: (u32, u32)) -> usize
         requires { Ascend 0 self.now }
         ensures within { result ≤ length self.now }
@@ -86,7 +87,7 @@ impl<V: Drop> Block<V> {
             .partition_point(|entry| entry.is_before(place))
     }
 
-    // The same, where the hint is looked at first.
+    // As `count_before`, but the hint is tried first.
     fn count_near(&self, place: (u32, u32), hint: usize) -> usize
         requires { Ascend 0 self.now }
         ensures within { result ≤ length self.now }
@@ -100,7 +101,7 @@ impl<V: Drop> Block<V> {
         }
     }
 
-    // Whether the pair at an index is not before a place, and the one in front of it is.
+    // True if the pair at an index is the first that is not before a place.
     fn is_first_from(&self, index: usize, place: (u32, u32)) -> bool
         requires { Ascend 0 self.now }
         ensures within { IsTrue result → index ≤ length self.now }
@@ -115,7 +116,7 @@ impl<V: Drop> Block<V> {
         index == 0 || self.entries[index - 1].is_before(place)
     }
 
-    /// Puts a pair in at its place.
+    /// Inserts a pair at its place.
     pub fn insert(&mut self, entry: Screened<V>)
         requires room { length self.old < ROOM }
         requires ascending { Ascend 0 self.old }
@@ -134,8 +135,8 @@ impl<V: Drop> Block<V> {
         };
     }
 
-    /// Puts a pair into a full block, whose pairs from some index on move to a block without pairs. New pairs behind
-    /// the others, or before them, leave full blocks behind.
+    /// Inserts a pair into a full block, whose pairs from an index on move to a block without pairs. New pairs after
+    /// the others, or before them, leave full blocks.
     pub fn insert_split(&mut self, entry: Screened<V>, upper: &mut Block<V>)
         requires full { ROOM ≤ length self.old }
         requires ascending { Ascend 0 self.old }
@@ -154,7 +155,7 @@ impl<V: Drop> Block<V> {
         }
     }
 
-    /// Notes of the pair at a place, where there is one, before which version it is the latest.
+    /// Notes, for the pair at a place if there is one, the version before which it is the latest.
     pub fn supersede(&mut self, place: (u32, u32), until: u32)
         requires { Ascend 0 self.old }
         ensures { self.new ≡ superseded (rank place.0 place.1) until self.old }
@@ -165,7 +166,7 @@ impl<V: Drop> Block<V> {
         }
     }
 
-    /// Takes the pairs of some places out.
+    /// Removes the pairs at these places.
     pub fn drop_all(&mut self, places: &[(u32, u32)])
         requires { Rises places.now }
         ensures { self.new ≡ filter (is_apart places.now) self.old }
@@ -174,7 +175,7 @@ impl<V: Drop> Block<V> {
         list_columns(self.entries.as_slice(), &mut self.columns);
     }
 
-    /// How many of the first of some places the last pair is not before.
+    /// The number of leading `places` that are at or before the last pair.
     pub fn reach(&self, places: &[(u32, u32)]) -> usize
         ensures within { result ≤ length places.now }
         ensures reached { AllWithin (λ p. ends_before (rank p.0 p.1) self.now ≡ false)
@@ -187,16 +188,16 @@ impl<V: Drop> Block<V> {
         count
     }
 
-    /// The least pair from a place on whose print holds what is wanted. Where nothing is wanted no print is read. The hint
-    /// is the index at which the pairs from the place on may begin, and then the one behind the answer.
+    /// The least pair from a place on whose print holds the wanted bits. If no bit is wanted, no print is read. The
+    /// hint is the index at which the pairs from the place on may begin, and then the index after the answer.
     ///
-    /// Behind an answer a few pairs are looked at by themselves: where many hold what is wanted, one of them is the next.
+    /// After an answer a few pairs are read one by one: if many hold the wanted bits, one of them is the next.
     pub fn next(&self, want: &Want<'_>, from: (u32, u32), hint: &mut usize) -> Option<&Screened<V>>
         requires { Ascend 0 self.now }
         ensures { IsNext want.now (rank from.0 from.1) self.now (option_copied result) }
     {
         let start = self.count_near(from, *hint);
-        // The union is asked once, where a search enters the block.
+        // The union is read once, if a search enters the block.
         if start == 0 && !want.is_met_by(&self.union) {
             return None;
         }
@@ -211,7 +212,7 @@ impl<V: Drop> Block<V> {
         self.next_noted(want, from, near, hint)
     }
 
-    // The same by the rows, where no pair before an index is wanted, and each behind it is from the place on.
+    // As `next`, but by the rows: no pair before index `near` is wanted, and each from there on is from the place on.
     fn next_noted(
         &self,
         want: &Want<'_>,
@@ -285,8 +286,8 @@ fn list_columns<V>(entries: &[Screened<V>], columns: &mut Vec<u8>)
     }
 }
 
-// Notes pairs in rows that note them and others, and most of the others no more. Where a block loses its last pair alone,
-// as for each new one behind a full block, the rows stay as they are.
+// Notes pairs in rows that note them and others, and forgets most of the others. If a block loses its last pair alone,
+// as for each new one after a full block, the rows stay as they are.
 fn note_left<V>(entries: &[Screened<V>], rows: &mut Rows)
     requires { AreNoted rows.old entries.now }
     ensures { AreNoted rows.new entries.now }
@@ -324,7 +325,7 @@ fn move_tail<V>(entries: &mut Vec<Screened<V>>, index: usize, upper: &mut Vec<Sc
     upper.as_mut_slice().reverse();
 }
 
-// Up to which index pairs are looked at by themselves: none where a search enters the block.
+// The index up to which pairs are read one by one; `start` if a search enters the block.
 fn near_end(start: usize, len: usize) -> usize
     ensures within { start ≤ len → (start ≤ result) × (result ≤ len) }
     ensures most { result ≤ start + len }
@@ -336,7 +337,7 @@ fn near_end(start: usize, len: usize) -> usize
     }
 }
 
-// At which index a full block is split for a pair that has `before` of its `len` pairs before it.
+// The index at which a full block is split for a pair that has `before` of its `len` pairs before it.
 fn split_point(before: usize, len: usize) -> usize
     requires { ROOM ≤ len }
     ensures some { 0 < result }
@@ -352,7 +353,7 @@ fn split_point(before: usize, len: usize) -> usize
     }
 }
 
-// Takes the pairs of some places out of pairs.
+// Removes the pairs at these places.
 fn drop_places<V: Drop>(entries: &mut Vec<Screened<V>>, places: &[(u32, u32)])
     requires { Rises places.now }
     ensures entries { entries.new.items ≡ filter (is_apart places.now) entries.old.items }

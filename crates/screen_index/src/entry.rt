@@ -9,14 +9,14 @@ use chem_core::Print;
 pub struct Screened<V> {
     pub id: u32,
     pub version: u32,
-    /// Before which version it is known to be its identifier's latest; `u32::MAX` where none is known to follow.
+    /// The version before which it is known to be its identifier's latest; `u32::MAX` if no later version is known.
     pub until: u32,
     pub value: V,
     pub print: Print,
 }
 
 impl<V> Screened<V> {
-    /// Whether it stands before a place, by identifier and then by version.
+    /// True if it is before a place, by identifier and then by version.
     pub fn is_before(&self, place: (u32, u32)) -> bool
         ensures { result ≡ nat_lt (rank_of self.now) (rank place.0 place.1) }
     {
@@ -25,21 +25,21 @@ impl<V> Screened<V> {
         own < id || own == id && version < other
     }
 
-    /// In which column of rows it is noted. Identifiers and versions that follow each other are spread over the columns.
+    /// The column of rows in which it is noted. Consecutive identifiers and versions are spread over the columns.
     pub fn column(&self) -> u8
         ensures { result ≡ column_of self.now }
     {
         column_at(self.id, self.version)
     }
 
-    /// Whether it stands behind a place.
+    /// True if it is after a place.
     pub fn is_behind(&self, place: (u32, u32)) -> bool
         ensures { result ≡ nat_lt (rank place.0 place.1) (rank_of self.now) }
     {
         is_before(place, (self.id, self.version))
     }
 
-    /// Whether it stands at none of some places.
+    /// True if it is at none of these places.
     pub fn is_apart(&self, places: &[(u32, u32)]) -> bool
         requires { Rises places.now }
         ensures { result ≡ is_apart places.now self.now }
@@ -50,14 +50,14 @@ impl<V> Screened<V> {
     }
 }
 
-// Whether a place is before another.
+// True if a place is before another.
 fn is_before(place: (u32, u32), other: (u32, u32)) -> bool
     ensures { result ≡ nat_lt (rank place.0 place.1) (rank other.0 other.1) }
 {
     place.0 < other.0 || place.0 == other.0 && place.1 < other.1
 }
 
-// In which column of rows the pair of an identifier and a version is noted.
+// The column of rows in which the pair of an identifier and a version is noted.
 fn column_at(id: u32, version: u32) -> u8
     ensures { result ≡ (id * 2654435769 + version * 374761393) / 67108864 % 64 }
 {

@@ -1,7 +1,6 @@
-//! Where the next pair is likely to be.
+//! The likely place of the next pair.
 
-/// The block of the last answer, and the index in it behind that answer. A wrong hint costs time and changes no
-/// answer.
+/// The block of the last answer, and the index in it after that answer. A wrong hint costs time and changes no answer.
 #[derive(Clone, Copy, Default)]
 pub struct Hint {
     pub(crate) block: usize,

@@ -1,4 +1,4 @@
-//! The blocks of an index, and where a pair goes among them.
+//! The blocks of an index, and the block of a pair among them.
 ghost use Rattle.std.specs.Prelude.{◌≡◌, ◌+◌, ◌<◌, ◌≤◌, [], All, IfSome, IsSome, IsTrue, None, OnErr, OnOk, Some, drop, filter, length, option_copied, take, vec_capacity, vec_len};
 ghost use Rattle.screen_index.specs.declared.entry.Screened.{Screened};
 ghost use Rattle.screen_index.specs.Pairs.{AreBlocks, Ascend, IsNext, Lacks, Rises, is_apart, joined, new_pair, put_in, rank, rank_of, superseded};
@@ -34,7 +34,7 @@ impl<V> Model for ScreenIndex<V> {
 }
 
 impl<V: Drop> ScreenIndex<V> {
-    /// Without pairs. It takes no memory.
+    /// An index without pairs. It takes no memory.
     pub fn new(alloc: Global) -> ScreenIndex<V>
         ensures entries { result.entries ≡ [] }
         ensures reserved { result.reserved ≡ None }
@@ -47,7 +47,7 @@ impl<V: Drop> ScreenIndex<V> {
         }
     }
 
-    /// Takes the memory for one pair more, with this print and value.
+    /// Takes the memory for one more pair, with this print and value.
     pub fn reserve(&mut self, print: &Print, value: V) -> Result<(), AllocError>
         ensures entries { self.new.entries ≡ self.old.entries }
         ensures ok { OnOk result (self.new.reserved ≡ Some (print.now, value)) }
@@ -62,7 +62,7 @@ impl<V: Drop> ScreenIndex<V> {
         Ok(())
     }
 
-    /// Puts in a pair that is new, with the print and value that memory was taken for. It takes no memory.
+    /// Inserts a pair that is new, with the print and value that memory was taken for. It takes no memory.
     pub fn add(&mut self, id: u32, version: u32)
         requires reserved { IsSome self.old.reserved }
         requires absent { Lacks (rank id version) self.old.entries }
@@ -86,7 +86,8 @@ impl<V: Drop> ScreenIndex<V> {
         );
     }
 
-    /// Notes of the pair at a place, where there is one, before which version it is the latest. It takes no memory.
+    /// Notes, for the pair at a place if there is one, a version before which it is the latest. It stays the latest
+    /// there if others are removed, and may be so later too. It takes no memory.
     pub fn supersede(&mut self, id: u32, version: u32, until: u32)
         ensures entries { self.new.entries ≡ superseded (rank id version) until self.old.entries }
         ensures reserved { self.new.reserved ≡ self.old.reserved }
@@ -97,7 +98,7 @@ impl<V: Drop> ScreenIndex<V> {
         }
     }
 
-    /// Takes out the pairs of some places, which ascend. It takes no memory.
+    /// Removes the pairs at these places, which ascend. It takes no memory.
     pub fn drop_all(&mut self, places: &[(u32, u32)])
         requires { Rises places.now }
         ensures entries { self.new.entries ≡ filter (is_apart places.now) self.old.entries }
@@ -106,8 +107,8 @@ impl<V: Drop> ScreenIndex<V> {
         drop_all(&mut self.blocks, places);
     }
 
-    /// The least pair from a place on whose print holds what is wanted. `None` exactly where there is none. The answer
-    /// is the same whatever the hint says; then the hint is for the pairs behind the answer. It takes no memory.
+    /// The least pair from a place on whose print holds the wanted bits; `None` only if there is no such pair. The
+    /// answer does not depend on the hint, which is then for the pairs after the answer. It takes no memory.
     pub fn next(&self, want: &Want<'_>, from: (u32, u32), hint: &mut Hint) -> Option<&Screened<V>>
         ensures next { IsNext want.now (rank from.0 from.1) self.now.entries (option_copied result) }
         ensures ascending { Ascend 0 self.now.entries }
@@ -123,7 +124,7 @@ impl<V: Drop> ScreenIndex<V> {
     }
 }
 
-// How many blocks end before a place.
+// The number of blocks that end before a place.
 fn block_of<V: Drop>(blocks: &Vec<Block<V>>, place: (u32, u32)) -> usize
     requires { AreBlocks blocks.now.items }
     ensures within { result ≤ length blocks.now.items }
@@ -135,7 +136,7 @@ fn block_of<V: Drop>(blocks: &Vec<Block<V>>, place: (u32, u32)) -> usize
         .partition_point(|block| block.ends_before(place))
 }
 
-// The same, where the hint is looked at first.
+// As `block_of`, but the hint is tried first.
 fn block_near<V: Drop>(blocks: &Vec<Block<V>>, place: (u32, u32), hint: usize) -> usize
     requires { AreBlocks blocks.now.items }
     ensures within { result ≤ length blocks.now.items }
@@ -149,7 +150,7 @@ fn block_near<V: Drop>(blocks: &Vec<Block<V>>, place: (u32, u32), hint: usize) -
     }
 }
 
-// Whether the block at an index does not end before a place, and the one in front of it does.
+// True if the block at an index is the first that does not end before a place.
 fn is_block_of<V: Drop>(blocks: &Vec<Block<V>>, index: usize, place: (u32, u32)) -> bool
     requires { AreBlocks blocks.now.items }
     ensures within { IsTrue result → index ≤ length blocks.now.items }
@@ -164,7 +165,7 @@ fn is_block_of<V: Drop>(blocks: &Vec<Block<V>>, index: usize, place: (u32, u32))
     index == 0 || blocks[index - 1].ends_before(place)
 }
 
-// Puts a pair in, and gives the spare block back where it was not needed.
+// Inserts a pair, and returns the spare block if it was not needed.
 fn put<V: Drop>(
     blocks: &mut Vec<Block<V>>,
     mut spare: Block<V>,
@@ -197,7 +198,7 @@ fn put<V: Drop>(
     None
 }
 
-// Takes out the pairs of some places, which ascend.
+// Removes the pairs at these places, which ascend.
 fn drop_all<V: Drop>(blocks: &mut Vec<Block<V>>, places: &[(u32, u32)])
     requires blocks { AreBlocks blocks.old.items }
     requires rises { Rises places.now }
@@ -213,8 +214,8 @@ fn drop_all<V: Drop>(blocks: &mut Vec<Block<V>>, places: &[(u32, u32)])
     }
 }
 
-// Takes out the pairs of the first of some places, those that fall into one block, and returns how many places these
-// are. A block that has few pairs left goes into the one before it or behind it.
+// Removes the pairs at the leading places that fall into one block, and returns the number of these places. A block
+// that has few pairs left goes into the one before it or after it.
 fn drop_first<V: Drop>(blocks: &mut Vec<Block<V>>, places: &[(u32, u32)]) -> usize
     requires blocks { AreBlocks blocks.old.items }
     requires rises { Rises places.now }
@@ -245,7 +246,7 @@ fn drop_first<V: Drop>(blocks: &mut Vec<Block<V>>, places: &[(u32, u32)]) -> usi
     count
 }
 
-// Moves the pairs of the next block into this one, where both together fill half a block at most.
+// Moves the pairs of the next block into this one, if both together fill half a block at most.
 fn join_next<V: Drop>(blocks: &mut Vec<Block<V>>, index: usize)
     requires blocks { AreBlocks blocks.old.items }
     requires within { index < vec_len blocks.old }

@@ -1,4 +1,4 @@
-//! A summary of prints by rows: of each bit, which columns may have it. A few prints share a column.
+//! A summary of prints by rows: for each bit, the columns that may have it. A few prints share a column.
 ghost use Rattle.std.specs.Prelude.{◌≡◌, ◌+◌, ◌*◌, ◌<◌, ℕ, Bool, IsTrue, List, length, slice_set, true};
 ghost use Rattle.std.specs.Int.{bit_at};
 ghost use Rattle.chem_core.specs.Bits.{HasBit};
@@ -9,7 +9,7 @@ use chem_core::Print;
 use std::alloc::{AllocError, Global};
 use std::marker::Model;
 
-// How many rows there are: one for each bit of a print, of 64 columns.
+// The number of rows: one for each bit of a print, of 64 columns.
 const ROWS: usize = 1024;
 
 /// A row has the columns of the prints that have its bit, and maybe others. Contracts see the bits of all rows, one row
@@ -31,20 +31,20 @@ impl Model for Rows {
 }
 
 impl Rows {
-    /// With no column in any row.
+    /// Rows without columns.
     pub fn new(alloc: Global) -> Result<Rows, AllocError> {
         let words = vec![in alloc; 0; ROWS]?;
         Ok(Rows { words })
     }
 
-    /// Takes all columns out.
+    /// Removes all columns.
     pub fn clear(&mut self) {
         for place in 0..self.words.len() {
             self.words[place] = 0;
         }
     }
 
-    /// Puts a column into the row of each bit of a print.
+    /// Adds a column to the row of each bit of a print.
     pub fn note(&mut self, print: &Print, column: u8)
         requires { column < 64 }
         ensures noted { Notes self.new print.now column }
@@ -53,7 +53,7 @@ impl Rows {
         note_words(self.words.as_mut_slice(), print.words(), column);
     }
 
-    /// Puts each column of other rows in as well.
+    /// Adds each column of other rows as well.
     pub fn unite(&mut self, other: &Rows)
         ensures own { (bit : ℕ) → HasBit self.old bit → HasBit self.new bit }
         ensures others { (bit : ℕ) → HasBit other.now bit → HasBit self.new bit }
@@ -61,7 +61,7 @@ impl Rows {
         unite(self.words.as_mut_slice(), other.words.as_slice());
     }
 
-    /// Columns as the bits of a word, among them each that is noted of a print which holds what is wanted.
+    /// Columns as the bits of a word, among them each in which a print is noted that holds the wanted bits.
     pub fn columns_of(&self, want: &Print) -> u64
         ensures { (print : List Bool) (column : ℕ) → column < 64 → Notes self.now print column
             → Holds print want.now → bit_at result column ≡ 1 }
@@ -78,14 +78,14 @@ impl Rows {
     }
 }
 
-/// Whether a column is among these.
+/// True if a column is among these.
 pub fn has_column(columns: u64, column: u8) -> bool
     ensures { column < 64 → bit_at columns column ≡ 1 → IsTrue result }
 {
     (columns >> (column % 64)) & 1 == 1
 }
 
-// Puts a column into the row of each bit of words.
+// Adds a column to the row of each bit of words.
 fn note_words(rows: &mut [u64], words: &[u64; 16], column: u8)
     requires rows { length rows.old ≡ ROWS }
     requires column { column < 64 }
@@ -99,7 +99,7 @@ fn note_words(rows: &mut [u64], words: &[u64; 16], column: u8)
     }
 }
 
-// Puts a column into the row of each bit of a word, which stands at a place among the words of a print.
+// Adds a column to the row of each bit of a word, which is at `place` among the words of a print.
 fn note_word(rows: &mut [u64], word: u64, place: u16, column: u8)
     requires rows { length rows.old ≡ ROWS }
     requires place { place < 16 }
@@ -126,7 +126,7 @@ fn set_bit(words: &mut [u64], bit: u16)
     words[usize::from(bit / 64)] |= 1 << (bit % 64);
 }
 
-// Those of some columns that are in the row of each bit of a word, which stands at a place among the words of a print.
+// The columns among these that are in the row of each bit of a word, which is at `place` among the words of a print.
 fn narrow(rows: &[u64], word: u64, place: usize, columns: u64) -> u64
     requires rows { length rows.now ≡ ROWS }
     requires place { place < 16 }

@@ -7,10 +7,10 @@ use chem_core::Print;
 use std::alloc::{AllocError, Global};
 use std::test::Fail;
 
-/// Of a pair its identifier, its version, the version before which it is known to be the latest, and its value.
+/// The identifier of a pair, its version, the version before which it is known to be the latest, and its value.
 type Pair = (u32, u32, u32, u8);
 
-/// Two bits that are wanted, the place from which on, and the next pair.
+/// Two wanted bits, the place at which to begin, and the next pair.
 type Row = ((u16, u16), (u32, u32), Option<Pair>);
 
 const ROWS: &[Row] = &[
@@ -22,13 +22,13 @@ const ROWS: &[Row] = &[
     ((70, 9), (0, 0), None),
 ];
 
-// The same index without version 2 of identifier 5.
+// As `ROWS`, but of the index without version 2 of identifier 5.
 const PRUNED: &[Row] = &[
     ((1, 1), (5, 2), None),
     ((1, 1), (0, 0), Some((5, 1, 2, 30))),
 ];
 
-// The hint for a first search, others that are wrong for most places, and two that are beyond the end.
+// The hint for a first search, others that are wrong for most places, and two beyond the end.
 const HINTS: &[Hint] = &[
     Hint { block: 0, place: 0 },
     Hint { block: 0, place: 1 },
@@ -83,7 +83,7 @@ fn next_of(index: &ScreenIndex<u8>, row: &Row, hint: &mut Hint) -> Option<Pair> 
     Some((next.id, next.version, next.until, next.value))
 }
 
-// What is found by the last hint and by each of the hints: another answer than that of the row, if one of them is.
+// The pair found by the last hint and by each of the hints: another pair than that of the row, if one of them is.
 fn found(index: &ScreenIndex<u8>, row: &Row, last: &mut Hint) -> Option<Pair> {
     let mut found = next_of(index, row, last);
     for hint in HINTS {
@@ -96,8 +96,8 @@ fn found(index: &ScreenIndex<u8>, row: &Row, last: &mut Hint) -> Option<Pair> {
     found
 }
 
-// The first row for which another pair is found, with that pair. Each is looked for also by the hint that the row before
-// it left.
+// The first row for which another pair is found, with that pair. Each is also looked for by the hint that the row
+// before it left.
 fn wrong(index: &ScreenIndex<u8>, rows: &[Row]) -> Option<(Row, Option<Pair>)> {
     let mut last = Hint::default();
     for row in rows {

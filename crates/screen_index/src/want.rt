@@ -1,11 +1,12 @@
-//! A print that is wanted of others.
+//! A print whose bits are wanted of others.
 ghost use Rattle.std.specs.Prelude.{◌≡◌, ◌↔◌, IsTrue};
 ghost use Rattle.screen_index.specs.Pairs.{Holds};
 
 use chem_core::Print;
 use std::marker::Model;
 
-/// A print whose bits are wanted, and whether it has none, which is asked once for many looks. Contracts see its bits.
+/// A print whose bits are wanted, and whether it has no bit, which is found once for a page. If it has no bit, no print
+/// is read. Contracts see its bits.
 #[derive(Drop)]
 pub struct Want<'a> {
     print: &'a Print,
@@ -24,7 +25,7 @@ impl<'a> Model for Want<'a> {
 }
 
 impl<'a> Want<'a> {
-    /// The bits of a print are wanted.
+    /// Wants the bits of a print.
     pub fn of(print: &'a Print) -> Want<'a>
         ensures { result ≡ print.now }
     {
@@ -41,7 +42,7 @@ impl<'a> Want<'a> {
         self.print
     }
 
-    // Whether a print has each of them. Where nothing is wanted it is not read.
+    // True if a print has each wanted bit. If no bit is wanted, it is not read.
     #[inline(always)]
     pub(crate) fn is_met_by(&self, print: &Print) -> bool
         ensures { IsTrue result ↔ Holds print.now self.now }

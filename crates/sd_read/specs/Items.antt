@@ -5,8 +5,8 @@ use Rattle.std.specs.Str.{bytes_eq}
 use Rattle.molfile_read.specs.Properties.{begins, is_end}
 use Rattle.sd_read.specs.Lines.{Line, lines_from}
 
--- The name in a data header: the line begins with `>`, and the name stands between its first `<` and the next `>`. Any
--- other line has none.
+-- The name in a data header: the line begins with `>`, and the name is between its first `<` and the next `>`. Any
+-- other line has no name.
 abbrev pub name_of : List ℕ → Option (List ℕ)
 name_of line =
     if begins line (codes ">") then
@@ -15,13 +15,13 @@ name_of line =
     (position (λ byte. byte == 60) line)
     else None
 
--- an item: its name, and the places where its data begin and end
+-- an item: its name, and the start and the end of its data
 pub record Item : Type 0 where
   pub name : List ℕ
   pub from : ℕ
   pub to : ℕ
 
--- where data end that begin at a place with these lines: at the first empty line, or behind the last line
+-- the end of data that begin at a place with these lines: at the first empty line, or after the last line
 abbrev pub data_end : ℕ → List Line → ℕ
 data_end at [] = at
 data_end at (line ∷ lines) = if length line.bytes == 0 then at else data_end line.next lines
@@ -39,7 +39,7 @@ items_in false (line ∷ lines) =
     let name = name_of line.bytes in
     cons_option (option_map (λ n. item_at n line.next lines) name) (items_in (is_some name) lines)
 
--- the lines behind the first that begins `M  END`
+-- the lines after the first that begins `M  END`
 abbrev pub behind_end : List Line → List Line
 behind_end [] = []
 behind_end (line ∷ lines) = if is_end line.bytes then lines else behind_end lines

@@ -1,7 +1,7 @@
 -- The lines of a text with their places. For callers.
 use Rattle.std.specs.Prelude.{ℕ, suc, ◌==◌, List, [], ◌∷◌, if◌then◌else◌}
 
--- a line without its LF, and the place behind that
+-- a line without its LF, and the place after that
 pub record Line : Type 0 where
   pub bytes : List ℕ
   pub next : ℕ
@@ -14,7 +14,7 @@ abbrev pub with_byte : ℕ → ℕ → List Line → List Line
 with_byte at byte [] = line_of (byte ∷ []) (suc at) ∷ []
 with_byte at byte (line ∷ lines) = line_of (byte ∷ line.bytes) line.next ∷ lines
 
--- the lines of bytes that stand from a place on: each ends with LF, and the last may have none
+-- the lines of bytes that begin at a place: each ends with LF, but the last may end without it
 abbrev pub lines_from : ℕ → List ℕ → List Line
 lines_from at [] = []
 lines_from at (byte ∷ bytes) =

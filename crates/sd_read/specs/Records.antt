@@ -1,4 +1,4 @@
--- What making records of molfiles answers. For callers.
+-- The answers of making records of molfiles. For callers.
 use Rattle.std.specs.Prelude.{◌≡◌, ℕ, List, Result, Err, IfErr, IfOk}
 use Rattle.std.specs.List.{AllZip, enumerate_from}
 use Rattle.std.specs.Arc.{arc_value}

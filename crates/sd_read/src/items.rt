@@ -5,8 +5,8 @@ ghost use Rattle.sd_read.specs.Items.{behind_end, data_end, first_named, items_i
 
 use crate::lines::Lines;
 
-/// Where the data of the first item of a name stand in a record's text: the place of their first line, and the place
-/// behind their last. `None` exactly where no item has the name. Takes no memory.
+/// The place of the data of the first item of a name in a record's text. It is the start of their first line, and the
+/// place after their last. `None` exactly if no item has the name. Takes no memory.
 pub fn item(text: &[u8], name: &[u8]) -> Option<(usize, usize)>
     ensures first { result ≡ first_named name.now (items_of text.now) }
     ensures within { IfSome result (λ r. (r.0 ≤ r.1) × (r.1 ≤ length text.now)) }
@@ -14,7 +14,7 @@ pub fn item(text: &[u8], name: &[u8]) -> Option<(usize, usize)>
     first_item(text, name)
 }
 
-/// Whether a line ends a record.
+/// True if a line ends a record.
 pub fn is_record_end(line: &[u8]) -> bool
     ensures { result ≡ bytes_eq line.now (codes "$$$$") }
 {
@@ -49,7 +49,7 @@ fn skip_molfile(lines: &mut Lines)
     }
 }
 
-// Passes over data, which begin at the place, and the empty line behind them. Gives the place where they end.
+// Passes over data, which begin at the place, and the empty line after them. Returns the place of their end.
 fn skip_data(lines: &mut Lines, from: usize) -> usize
     ensures end { result ≡ data_end from lines.old }
     ensures items { items_in false lines.new ≡ items_in true lines.old }

@@ -1,7 +1,7 @@
-//! SD files (CTfile formats, SDfile): the records of their texts, and the data items behind a record's molfile.
+//! SD files (CTfile formats, SDfile): the records of their texts, and the data items after a record's molfile.
 //!
 //! An item is found in the text that a record keeps, without memory. Records are made of many texts at the same time,
-//! each as `Record::make` makes it.
+//! each as by `Record::make`.
 #![tactic(auto)]
 
 mod items;

@@ -1,4 +1,4 @@
-//! The lines of a text, one after another, each with the place behind it.
+//! The lines of a text, one after another, each with the place after it.
 ghost use Rattle.std.specs.Prelude.{◌≡◌, ◌∷◌, [], MatchOption};
 ghost use Rattle.sd_read.specs.Lines.{line_of, lines_from};
 
@@ -31,7 +31,7 @@ impl<'a> Lines<'a> {
         Lines { text, place: 0 }
     }
 
-    /// The next line without its LF, and the place behind that; none at the end.
+    /// The next line without its LF, and the place after that; `None` at the end.
     pub(crate) fn next(&mut self) -> Option<(&'a [u8], usize)>
         ensures { MatchOption result ((self.old ≡ []) × (self.new ≡ []))
             (λ r. self.old ≡ line_of r.0.now r.1 ∷ self.new) }

@@ -13,8 +13,8 @@ use store_core::Record;
 // The fewest texts that are worth a thread of their own.
 const LEAST_PIECE: usize = 8;
 
-/// What making a record of each molfile answers, in order, under identifiers from the first on. A text that is refused
-/// leaves the others as they are. Texts are read in several threads, where there are enough of them.
+/// Makes a record of each molfile, in order, under identifiers from `first` on, and returns the answers. A refused text
+/// leaves the others as they are. Texts are read in several threads, if there are enough of them.
 ///
 /// An error is want of memory for the list of the answers.
 pub fn read_records<R: Threads + Sync>(

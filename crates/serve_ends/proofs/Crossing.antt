@@ -1,4 +1,5 @@
--- What may go to another thread, and what threads may share, where the disk may.
+-- What may go to another thread, and what threads may share, if the disk may. The kit does not say it of a type with a
+-- seat of a table, so it is shown by hand.
 use denote.Param.Send.{IsSend, IsSync, part_keyless, recorded_send, recorded_sync, sendable, struct_send, struct_sync}
 use denote.RattleType.{RattleType}
 use Rattle.std.proofs.Common.{ℕ, List, [], ◌∷◌}

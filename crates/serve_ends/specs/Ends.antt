@@ -1,4 +1,4 @@
--- For callers: what a session leaves of an end, by the calls that were made for it.
+-- For callers: an end after its session, by the calls that were made for it.
 use Rattle.io_edge.specs.declared.sinks.Sink as put
 use Rattle.io_edge.specs.declared.sources.Source as taken
 use Rattle.session_acts.specs.Cursors.{Calls}
@@ -8,8 +8,8 @@ use Rattle.session_run.specs.declared.settings.Settings.{Settings}
 use Rattle.serve_ends.specs.declared.end.End.{End}
 use Rattle.serve_ends.specs.Status.{IsStatusOf}
 
--- What was put is the transcript of the source's bytes by these calls where the end is done, which it is once all bytes
--- were taken; else a beginning of one. A fault is one of the end's own objects
+-- If the end is done, the output is the transcript of the source's bytes by these calls; else a beginning of one. It is
+-- done once all bytes were taken. A fault is one of the end's own objects
 pub record EndServed {S K : Type 0} (source : taken.Ghosts S) (sink : put.Ghosts K) (settings : Settings)
     (before after : End S K) (calls : Calls) : Type 0 where
   pub ended : EndStatus

@@ -19,9 +19,9 @@ abbrev pub numbers_from : ℕ → ℕ → List ℕ
 numbers_from first zero = []
 numbers_from first (suc count) = numbers_from first count ++ (first + count) ∷ []
 
--- What the pass has seen more is one part of the run of its hall, without a crash. The pass gained a number for each
--- end, in their order, and each end was served by the calls of its number in that part. No step is of a number that is
--- no end's. An end is worn only where the hall's turns were all taken
+-- The events that the pass has seen since are one part of the run of its hall, without a crash. The pass gained a
+-- number for each end, in their order, and each end was served by the calls of its number in that part. Each step is of
+-- an end's number. An end is worn only if the hall's turns were all taken
 pub record Serving {D S K : Type 0} (source : taken.Ghosts S) (sink : put.Ghosts K) (settings : Settings)
     (old new : HallPass D) (before after : List (End S K)) : Type 0 where
   pub steps : List Step

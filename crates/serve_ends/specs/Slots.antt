@@ -19,11 +19,11 @@ use Rattle.serve_ends.specs.Ends.{EndServed}
 use Rattle.serve_ends.specs.declared.slot.Slot.{Slot}
 use Rattle.serve_ends.specs.declared.status.TheConstants.{WORN}
 
--- what a pass of a hall knows
+-- the knowledge of a pass of a hall
 abbrev pub Sight : Type 0 → Type 0
 Sight D = Known (Kept D) Step (Origin D)
 
--- what the root pass knows, once so many passes more were split off
+-- the knowledge of the root pass, once n passes more were split off
 abbrev pub splits : {D : Type 0} → ℕ → Sight D → Sight D
 splits n v = record v { given = v.given + n }
 
@@ -34,7 +34,7 @@ module _ {D S K : Type 0} (hall : Hall D) where
     pub is : slot.pass ≡ Some pass
     pub of : IsOf hall pass
 
-  -- its pass is of this hall, and was split off after so many others
+  -- its pass is of this hall, and was split off after n others
   pub record IsCut (root : Sight D) (n : ℕ) (slot : Slot D S K) : Type 0 where
     pub pass : HallPass D
     pub is : slot.pass ≡ Some pass
@@ -47,8 +47,8 @@ module _ {D S K : Type 0} (hall : Hall D) where
   Joins (slot ∷ slots) p q =
       (o r : HallPass D) × (slot.pass ≡ Some o) × IsOf hall p × IsOf hall r × Merged p o r × Joins slots r q
 
--- Its pass made a stretch at a desk, in which the end was served by the pass's own calls. It is worn only where the
--- pass has seen an event for each turn of its hall
+-- Its pass made a stretch at a desk, in which the end was served by the pass's own calls. It is worn only if the pass
+-- has seen an event for each turn of its hall
 pub record WasServed {D S K : Type 0} (source : taken.Ghosts S) (sink : put.Ghosts K) (settings : Settings)
     (hall : Hall D) (before after : Slot D S K) : Type 0 where
   pub old : HallPass D

@@ -1,10 +1,10 @@
 //! An end that is served.
 
-/// One end that is served: where its script comes from, where the replies go, and how it ended.
+/// One end that is served: the source of its script, the sink of its replies, and its status.
 #[derive(Drop)]
 pub struct End<S, K> {
     pub source: S,
     pub sink: K,
-    /// How its session ended; see the statuses.
+    /// The status of its session; see the statuses.
     pub status: u8,
 }

@@ -1,8 +1,8 @@
 //! Several ends, each served by a session in a thread of its own at a desk of one hall.
 //!
-//! What is promised is one run: the part of the hall's history that the root pass gained. Each end has a number of its
-//! own, and what was put to it is a transcript of its source, or a beginning of one, by the calls of that number in the
-//! part, in which no other number has a step.
+//! The promise is one run: the part of the hall's history that the root pass gained. Each end has a number of its own,
+//! and no other number has a step in that part. The output of an end is a transcript of its source, or a beginning of
+//! one, by the calls of its number.
 #![tactic(auto)]
 
 mod end;

@@ -1,4 +1,4 @@
-//! Ends that are served at the same time: a pass is split off for each, each is served in a thread of its own, and the
+//! Ends that are served at the same time. A pass is split off for each, each is served in a thread of its own, and the
 //! passes are joined again.
 ghost use Rattle.std.specs.Prelude.{◌≡◌, ◌≤◌, ◌<◌, [], All, ℕ, OnErr, OnOk, length, map, slice_index_or, vec_capacity, vec_len};
 ghost use Rattle.hall.specs.Passes.{IsOf, IsRoot, IsWhole, Runs, known};
@@ -22,9 +22,8 @@ use std::thread::Threads;
 /// The most ends that are served at a time.
 pub const MOST_ENDS: usize = 16;
 
-/// Serves 1 to 16 ends, each by a session in a thread of its own at a desk of the hall, with one number of its own of
-/// the numbers that the pass gains. The pass is whole again, and has seen all that they did. The ends come back in
-/// their order.
+/// Serves 1 to 16 ends, each by a session in a thread of its own at a desk of the hall. The pass gains numbers, one for
+/// each end. The pass is whole again, and has seen all their calls. The ends come back in their order.
 ///
 /// An error is want of memory for the list of the ends: nothing was taken or put, and the pass is as before.
 pub fn serve_ends<

@@ -15,7 +15,7 @@ pub const SINK_FAULT: u8 = 4;
 /// Memory ran out.
 pub const NO_MEMORY: u8 = 8;
 
-/// As many bytes were taken of the input as may be, and it goes on.
+/// The limit of bytes was taken of the input, and it goes on.
 pub const INPUT_TOO_LONG: u8 = 9;
 
 /// The service answers no call any more.

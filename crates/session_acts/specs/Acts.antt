@@ -1,7 +1,7 @@
--- For callers: what is done for a request and how it is answered. An act makes calls, with their replies in order, has
--- reply lines, and leaves cursors and watches. A command allows some acts.
--- Want of memory may take the place of a reply; the request has then done nothing, but a search may have listed some of
--- its hits, and a step of a compaction may have written some of its items.
+-- For callers: the acts for a request, and their answers. An act makes calls, with their replies in order, has reply
+-- lines, and leaves cursors and watches. A command allows certain acts. A memory fault may replace any reply. The
+-- request has then done nothing, but a search may have listed some of its hits, and a step of a compaction may have
+-- written some of its items.
 use Rattle.std.specs.Prelude.{◌≡◌, ◌≢◌, ◌⊎◌, ◌≤◌, ◌<◌, ℕ, suc, ◌+◌, Bool, true, false, if◌then◌else◌, List, [], ◌∷◌, ◌++◌, length, map, Option, None, Some, Result, Ok, Err}
 use Rattle.chem_core.specs.Molecule.{Molecule}
 use Rattle.io_edge.specs.Lines.{TextLine, Whole}
@@ -46,7 +46,7 @@ use Rattle.session_acts.specs.Watching.{AfterCalls, IsUnwatched, Standing, Watch
 abbrev pub Lines : Type 0
 Lines = List line.Reply
 
--- what is said where nothing is called
+-- an answer without a call
 pub data Note : Type 0 where
   Silence : Note
   Refused : (refusal : Refusal) → Note
@@ -57,9 +57,9 @@ note_lines Silence = []
 note_lines (Refused refusal) = line.Refused refusal ∷ []
 note_lines Fault = line.MemoryFault ∷ []
 
--- the acts: a note alone; one call, of a change too; a search; a cursor that is opened, that turns a page, that is
--- closed; a lookup of the same structure, a registration behind one, and a lookup of similar prints; registrations of
--- the records of an SD file under identifiers from this on, and a look at a data item
+-- The acts. A note alone, one call, or a search. A cursor is opened, turns a page, or is closed. A lookup of the same
+-- structure, a registration after one, or a lookup of similar prints. Registrations of the records of an SD file under
+-- identifiers from `id` on, or a look at a data item. A watch is added, listed or removed.
 pub data Act : Type 0 where
   Say : (note : Note) → Act
   Ask : (event : Event) → Act
@@ -76,13 +76,13 @@ pub data Act : Type 0 where
   ListHits : (name : List ℕ) → Act
   Unwatch : (name : List ℕ) → Act
 
--- what an identifier is, as `show` says it
+-- the line of `show`, by the status of an identifier
 abbrev pub shown : ℕ → Option Status → line.Reply
 shown id None = line.Refused refusals.Absent
 shown id (Some (status.Live version format text)) = line.Shown id version format text
 shown id (Some (status.Withdrawn version)) = line.Gone id version
 
--- the line that the reply to a call gives. There may be no room for what `show` found; no pin may be free
+-- the line that the reply to a call gives. There may be no room for the record that `show` found; no pin may be free
 abbrev pub IsLineOf : Event → Reply → line.Reply → Type 0
 IsLineOf (events.Commit change) (replies.Committed version) said = said ≡ line.Accepted version
 IsLineOf (events.Commit change) replies.Known said = said ≡ line.Refused refusals.Known
@@ -104,7 +104,7 @@ IsLineOf events.Stats (replies.Counted version live withdrawn kept pins) said =
 IsLineOf events.Pin replies.NoPin said = said ≡ line.Refused refusals.Pins
 IsLineOf _ _ said = ⊥
 
--- what the data item of a name is, as `data` says it
+-- the line of `data`, by the data item of a name
 abbrev pub item_line : ℕ → Option (List ℕ) → line.Reply
 item_line id None = line.Refused refusals.Data
 item_line id (Some text) = line.Data id text
@@ -114,7 +114,7 @@ data_line id name None = line.Refused refusals.Absent
 data_line id name (Some (status.Live version format text)) = item_line id (data_of format text name)
 data_line id name (Some (status.Withdrawn version)) = line.Refused refusals.Withdrawn
 
--- the line that the reply to a look gives. There may be no room for what `data` found
+-- the line that the reply to a look gives. There may be no room for the item that `data` found
 abbrev pub IsDataLine : ℕ → List ℕ → Reply → line.Reply → Type 0
 IsDataLine id name (replies.Looked state) said = (said ≡ data_line id name state) ⊎ (said ≡ line.MemoryFault)
 IsDataLine id name replies.NoMemory said = said ≡ line.MemoryFault
@@ -127,7 +127,7 @@ pub data AnswersBy : Act → Calls → line.Reply → Type 0 where
   Replies : (event : Event) (reply : Reply) (said : line.Reply) (is : IsLineOf event reply said)
       → AnswersBy (Ask event) ((event, reply) ∷ []) said
 
--- some of the hits, and then memory ran out
+-- the first of the hits, and then memory ran out
 abbrev pub IsCutShort : List ℕ → Lines → Type 0
 IsCutShort hits lines = (some others : List ℕ) × (hits ≡ some ++ others)
     × (lines ≡ map line.Hit some ++ line.MemoryFault ∷ [])
@@ -186,7 +186,7 @@ pub data Advances (size : ℕ) (c : Cursor) : Calls → Lines → Cursor → Typ
   Lost : (from : ℕ) (at : c.place ≡ At from)
       → Advances size c ((events.Fetch c.slot c.want from size, replies.NoMemory) ∷ []) (line.MemoryFault ∷ []) c
 
--- the lines of what is the same, and of what is similar
+-- the lines of the same structures, and of the similar ones
 abbrev pub same_lines : HitList → Lines
 same_lines list = map line.Hit list.hits.items ++ line.End list.version list.tried (length list.hits.items) ∷ []
 
@@ -196,15 +196,16 @@ like_line x = line.Like x.0 x.1 x.2
 abbrev pub similar_lines : SimilarList → Lines
 similar_lines list = map like_line list.best.hits ++ line.Scored list.version list.scored (length list.best.hits) ∷ []
 
--- How `same` is answered: what was found is listed; or memory ran out, in a lookup that came so far, or for the lines
+-- How `same` is answered: the structures found are listed; or memory ran out, in a lookup that came to a place, or for
+-- the lines
 pub data ListsSame (size : ℕ) (m : Molecule) (print : List Bool) : Calls → Lines → Type 0 where
   AllSame : (calls : Calls) (list : HitList) (found : FindsSame size m print calls list)
       → ListsSame size m print calls (same_lines list)
   SameLost : (calls : Calls) (place : Place) (lookup : LooksUp size print place calls)
       → ListsSame size m print calls (line.MemoryFault ∷ [])
 
--- How `register-new` is answered: some structure is the same, the first of which is told, and nothing is committed; or
--- none is, and the change is committed, as that of `register`; or memory ran out, and nothing is committed
+-- How `register-new` is answered. A structure is the same: the first is named, and nothing is committed. No structure
+-- is the same: the change is committed, as that of `register`. Or memory ran out, and nothing is committed
 pub data RegistersNew (size : ℕ) (change : Change) (m : Molecule) (print : List Bool) : Calls → Lines → Type 0 where
   NotNew : (calls : Calls) (list : HitList) (id : ℕ) (more : List ℕ) (found : FindsSame size m print calls list)
       (first : list.hits.items ≡ id ∷ more)
@@ -223,15 +224,15 @@ pub data ListsSimilar (size p q k : ℕ) (print : List Bool) : Calls → Lines �
   SimilarLost : (calls : Calls) (want : List Bool) (place : Place) (none : IsEmptyPrint want)
       (lookup : LooksUp size want place calls) → ListsSimilar size p q k print calls (line.MemoryFault ∷ [])
 
--- a change to a text: the text is looked at first
+-- a change to a text: the text is read first
 abbrev pub MayChange : Change → Format → List ℕ → Act → Type 0
 MayChange change format text (Say Fault) = Unit {0}
 MayChange change format text (Say (Refused (refusals.Text fault))) = IsTextFault format text fault
 MayChange change format text (Ask event) = (event ≡ events.Commit change) × IsText format text
 MayChange change format text _ = ⊥
 
--- the acts for a record of an SD file, where the texts up to and with it count so many bytes: no line of it was left;
--- the texts are too many bytes; a line is too long; or its text is registered
+-- the acts for a record of an SD file, if the texts up to and with it count `sum` bytes. It is refused if no line of it
+-- was left, if the texts have too many bytes, or if a line is too long. Otherwise its text is registered
 abbrev pub MayRegister : ℕ → ℕ → Option (List TextLine) → Act → Type 0
 MayRegister id sum r (Say Fault) = Unit {0}
 MayRegister id sum None act = act ≡ Say (Refused refusals.SdCut)
@@ -242,8 +243,8 @@ MayRegister id sum (Some lines) act =
     ⊎ ((has_long lines ≡ false) × MayChange (changes.Register id Molfile (molfile_text lines)) Molfile
     (molfile_text lines) act)))
 
--- the records are answered one after another, each by one line, under identifiers from this on, where the texts before
--- count so many bytes
+-- the records are answered one after another, each by one line, under identifiers from `id` on, if the texts before
+-- count `sum` bytes
 abbrev pub RegistersEach : ℕ → ℕ → List (Option (List TextLine)) → Calls → Lines → Type 0
 RegistersEach id sum [] calls lines = (calls ≡ []) × (lines ≡ [])
 RegistersEach id sum (r ∷ records) calls lines =
@@ -257,8 +258,8 @@ pub record IsNamed (name : List ℕ) (cursors before : List Cursor) (c : Cursor)
   pub place : cursors ≡ before ++ c ∷ after
   pub named : c.name ≡ name
 
--- what an act does where these cursors are open: its calls, its lines, and the cursors that are open then. Pages have
--- a size
+-- the effects of an act if these cursors are open: its calls, its lines, and the cursors that are open then. A page has
+-- at most `size` records
 pub data Does (size : ℕ) (cursors : List Cursor) : Act → Calls → Lines → List Cursor → Type 0 where
   Says : (note : Note) → Does size cursors (Say note) [] (note_lines note) cursors
   Asks : (event : Event) (reply : Reply) (said : line.Reply) (is : IsLineOf event reply said)
@@ -295,10 +296,10 @@ hit_lines version hits rebuilt = map line.Hit hits ++ line.EndWatched version (l
 abbrev pub watch_lines : Watched → Lines
 watch_lines w = hit_lines w.version w.hits w.rebuilt
 
--- What an act does with these watches: its calls, its lines, and the watches then. A pattern is watched from its hits
--- at the version that was pinned on; its hits are listed where they are of the version that was pinned, else they are
--- searched anew; or memory ran out, in a search that came so far, or for the lines. Nothing is searched for a name that
--- is watched, for one watch too many, or where the hits are of the version that was pinned
+-- The effects of an act with these watches: its calls, its lines, and the watches then. A pattern is watched from its
+-- hits at the pinned version on. The hits of a watch are listed if they are of the pinned version; else they are
+-- searched anew. Or memory ran out, in a search that came to a place, or for the lines. Nothing is searched for a name
+-- that is watched, for one watch too many, or if the hits are of the pinned version
 pub data DoesWatch (size : ℕ) (watches : List Watched) : Act → Calls → Lines → List Watched → Type 0 where
   WatchedAll : (name : List ℕ) (pattern : PatternTerm) (calls : Calls) (version : ℕ) (hits : List ℕ)
       (new : IsUnwatched watches name) (few : length watches < MOST_WATCHES)
@@ -324,13 +325,13 @@ pub data DoesWatch (size : ℕ) (watches : List Watched) : Act → Calls → Lin
   TakenOut : (name : List ℕ) (w : Watched) (named : watch_of name watches ≡ Some w)
       → DoesWatch size watches (Unwatch name) [] (line.Unwatched ∷ []) (without name watches)
 
--- The acts that a command allows. A call with no text to look at
+-- The acts that a command allows. First one call, without a text
 abbrev pub MayAsk : Event → Act → Type 0
 MayAsk event (Say Fault) = Unit {0}
 MayAsk event (Ask other) = other ≡ event
 MayAsk event _ = ⊥
 
--- a search, where the text is a pattern and a pin is free
+-- a search, if the text is a pattern and a pin is free
 abbrev pub MaySearch : List ℕ → Act → Type 0
 MaySearch text (Say Fault) = Unit {0}
 MaySearch text (Say (Refused (refusals.Pattern fault))) = IsPatternFault text fault
@@ -338,7 +339,7 @@ MaySearch text (Ask event) = (event ≡ events.Pin) × (pattern : PatternTerm) �
 MaySearch text (Search pattern) = IsPatternOf text pattern
 MaySearch text _ = ⊥
 
--- a cursor is opened, where the name is free too
+-- a cursor is opened, if the name is free too
 abbrev pub MayOpen : List Cursor → List ℕ → List ℕ → Act → Type 0
 MayOpen cursors name text (Say Fault) = Unit {0}
 MayOpen cursors name text (Say (Refused (refusals.Pattern fault))) = IsPatternFault text fault
@@ -361,7 +362,7 @@ MayClose cursors name (Say (Refused refusals.Cursor)) = IsNoName cursors name
 MayClose cursors name (Close own) = own ≡ name
 MayClose cursors name _ = ⊥
 
--- what is the same as the structure of a text, where a pin is free
+-- a lookup of the structure of a text, if a pin is free
 abbrev pub MaySame : List ℕ → Act → Type 0
 MaySame text (Say Fault) = Unit {0}
 MaySame text (Say (Refused (refusals.Text fault))) = IsTextFault Smiles text fault
@@ -369,7 +370,7 @@ MaySame text (Ask event) = (event ≡ events.Pin) × IsText Smiles text
 MaySame text (Same m print) = IsStructureOf text m × IsPrint m print
 MaySame text _ = ⊥
 
--- a registration where nothing is
+-- a registration, if no structure is the same
 abbrev pub MayRegisterNew : ℕ → List ℕ → Act → Type 0
 MayRegisterNew id text (Say Fault) = Unit {0}
 MayRegisterNew id text (Say (Refused (refusals.Text fault))) = IsTextFault Smiles text fault
@@ -378,7 +379,7 @@ MayRegisterNew id text (RegisterNew change m print) =
     (change ≡ changes.Register id Smiles text) × IsStructureOf text m × IsPrint m print
 MayRegisterNew id text _ = ⊥
 
--- what is similar to the print of the structure of a text
+-- a lookup of prints similar to that of the structure of a text
 abbrev pub MaySimilar : ℕ → ℕ → ℕ → List ℕ → Act → Type 0
 MaySimilar p q k text (Say Fault) = Unit {0}
 MaySimilar p q k text (Say (Refused (refusals.Text fault))) = IsTextFault Smiles text fault
@@ -393,7 +394,7 @@ MayFind id name (Say Fault) = Unit {0}
 MayFind id name (FindData own_id own_name) = (own_id ≡ id) × (own_name ≡ name)
 MayFind id name _ = ⊥
 
--- a pattern is watched, where the name is free, fewer than the most are watched, and a pin is free
+-- a pattern is watched, if the name is free, fewer than `MOST_WATCHES` are watched, and a pin is free
 abbrev pub MayWatch : List Watched → List ℕ → List ℕ → Act → Type 0
 MayWatch watches name text (Say Fault) = Unit {0}
 MayWatch watches name text (Say (Refused (refusals.Pattern fault))) = IsPatternFault text fault
@@ -406,7 +407,7 @@ MayWatch watches name text (Ask event) = (event ≡ events.Pin) × (pattern : Pa
 MayWatch watches name text (Watch own pattern) = (own ≡ name) × IsPatternOf text pattern
 MayWatch watches name text _ = ⊥
 
--- the hits of the watch of a name are listed, where a pin is free, or it is watched no more
+-- the hits of the watch of a name are listed, if a pin is free; or the watch is removed
 abbrev pub MayHits : List Watched → List ℕ → Act → Type 0
 MayHits watches name (Say Fault) = Unit {0}
 MayHits watches name (Say (Refused refusals.Watch)) = IsUnwatched watches name
@@ -419,7 +420,7 @@ MayUnwatch watches name (Say (Refused refusals.Watch)) = IsUnwatched watches nam
 MayUnwatch watches name (Unwatch own) = own ≡ name
 MayUnwatch watches name _ = ⊥
 
--- by what the line is read as, with the lines that it may take
+-- the acts for a line, by its command or refusal, with the lines that it may take
 abbrev pub Allows : Standing → List TextLine → Result Command LineRefusal → Act → Type 0
 Allows standing more (Err refusal) act = act ≡ Say (Refused (refusals.Line refusal))
 Allows standing more (Ok command.Empty) act = act ≡ Say Silence
@@ -448,22 +449,22 @@ Allows standing more (Ok command.Prune) act = MayAsk events.Prune act
 Allows standing more (Ok command.Compact) act = MayAsk events.Compact act
 Allows standing more (Ok command.Stats) act = MayAsk events.Stats act
 
--- one of the acts was done that are allowed, by the cursors
+-- one of the allowed acts was done, by the cursors
 pub record Answers (size : ℕ) (Allowed : Act → Type 0) (cursors : List Cursor) (calls : Calls) (lines : Lines)
     (cursors' : List Cursor) : Type 0 where
   pub act : Act
   pub allowed : Allowed act
   pub does : Does size cursors act calls lines cursors'
 
--- what an act does with all that is kept: by the cursors, and the watches follow the commits among its calls; or by the
--- watches, and the cursors stay
+-- the effects of an act on the whole state: on the cursors, and the watches follow the commits among its calls; or on
+-- the watches, and the cursors stay
 abbrev pub DoesAll : ℕ → Standing → Act → Calls → Lines → Standing → Type 0
 DoesAll size standing act calls lines standing' =
     (Does size standing.cursors act calls lines standing'.cursors
     × AfterCalls calls standing.watches standing'.watches)
     ⊎ (DoesWatch size standing.watches act calls lines standing'.watches × (standing'.cursors ≡ standing.cursors))
 
--- one was done by all that is kept
+-- one of the allowed acts was done, on the whole state
 pub record Responds (size : ℕ) (Allowed : Act → Type 0) (standing : Standing) (calls : Calls) (lines : Lines)
     (standing' : Standing) : Type 0 where
   pub act : Act

@@ -22,8 +22,8 @@ pub record Makes {S : Type 0} (at : S → State → Type 0) (owns : S → ℕ �
     (stretch : S → S → State → List Step → State → Type 0) (old new : S) (calls : Calls) : Type 0 where
   pub made : (s : State) → at old s → core.Calls stretch (owns old) old new s calls
 
--- An open cursor: its name, its pattern and what that needs, its pin, where its search stands, and how many identifiers
--- its pages tried and listed
+-- An open cursor: its name, its pattern and the bits that this needs, its pin, and the place of its search. It counts
+-- the identifiers that its pages tried and listed
 pub record Cursor : Type 0 where
   pub name : List ℕ
   pub pattern : PatternTerm
@@ -34,15 +34,15 @@ pub record Cursor : Type 0 where
   pub tried : ℕ
   pub hits : ℕ
 
--- the cursors, each with its number in order of opening; a name is that of one cursor at most
+-- no cursor has the name
 abbrev pub IsNoName : List Cursor → List ℕ → Type 0
 IsNoName cursors name = All (λ c. c.name ≢ name) cursors
 
--- the cursor stands among these
+-- the cursor is among these
 abbrev pub IsAmong : List Cursor → List Cursor → Cursor → List Cursor → Type 0
 IsAmong cursors before c after = cursors ≡ before ++ c ∷ after
 
--- These calls are a search for a pattern by pages of a size, from the beginning to a place. So many identifiers were
+-- These calls are a search for a pattern by pages of a size, from the beginning to a place: `tried` identifiers were
 -- tried, and these are the hits.
 pub record IsSearched (pattern : PatternTerm) (slot size : ℕ) (place : Place) (pages : Calls) (tried : ℕ)
     (hits : List ℕ) : Type 0 where

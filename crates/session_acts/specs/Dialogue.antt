@@ -1,4 +1,4 @@
--- For callers: a session as a dialogue, each request with the lines of its reply, and the versions that replies tell.
+-- For callers: a session as a dialogue, each request with the lines of its reply, and the versions that replies show.
 use Rattle.std.specs.Prelude.{◌≡◌, ◌⊎◌, ◌+◌, ℕ, Contains, Ok, List, [], ◌∷◌, ◌++◌, map}
 use Rattle.io_edge.specs.Lines.{Whole}
 use Rattle.shell_lang.specs.Command as command
@@ -16,7 +16,7 @@ pub record Exchange : Type 0 where
   pub request : Request
   pub lines : Lines
 
--- the requests were answered one after another by these calls, each by its lines, and this is kept then
+-- the requests were answered one after another by these calls, each by its lines, and `standing'` is kept then
 abbrev pub AreExchanged : ℕ → Standing → List Exchange → Calls → Standing → Type 0
 AreExchanged size standing [] calls standing' = (calls ≡ []) × (standing' ≡ standing)
 AreExchanged size standing (x ∷ xs) calls standing' =
@@ -48,7 +48,7 @@ likes_in [] = []
 likes_in (line.Like id c u ∷ lines) = (id, c, u) ∷ likes_in lines
 likes_in (_ ∷ lines) = likes_in lines
 
--- what a cursor listed: the hits in the replies to `next` with its name, in order. Other requests may stand between
+-- the hits that a cursor listed: those in the replies to `next` with its name, in order. Other requests may be between
 abbrev pub AreListed : List ℕ → List Exchange → List ℕ → Type 0
 AreListed name [] hits = hits ≡ []
 AreListed name (x ∷ xs) hits =
@@ -56,7 +56,7 @@ AreListed name (x ∷ xs) hits =
     × AreListed name xs more)
     ⊎ (¬ IsCommand x.request (command.Next name) × AreListed name xs hits)
 
--- so many replies to `next` with the name gave a page and `more`; any other found no memory
+-- k replies to `next` with the name gave a page and `more`; any other found no memory
 abbrev pub AreTurned : List ℕ → List Exchange → ℕ → Type 0
 AreTurned name [] k = k ≡ 0
 AreTurned name (x ∷ xs) k =
@@ -75,7 +75,7 @@ abbrev pub StaysOpen : List ℕ → List Exchange → Type 0
 StaysOpen name [] = Unit {0}
 StaysOpen name (x ∷ xs) = ¬ IsCommand x.request (command.Close name) × StaysOpen name xs
 
--- no request takes the watch of the name out
+-- no request removes the watch of the name
 abbrev pub StaysWatched : List ℕ → List Exchange → Type 0
 StaysWatched name [] = Unit {0}
 StaysWatched name (x ∷ xs) = ¬ IsCommand x.request (command.Unwatch name) × StaysWatched name xs

@@ -1,5 +1,5 @@
--- For proofs, and for private clauses of crates above: the pins that are held, by the calls that were made, and those
--- of the open cursors.
+-- For proofs, and for private clauses of crates above: the pins that are held, by the calls made, and those of the open
+-- cursors.
 use Rattle.std.specs.Prelude.{◌≡◌, ◌⊎◌, ◌↔◌, ℕ, List, [], ◌∷◌}
 use Rattle.store_core.specs.Calls.{SameHeld}
 use Rattle.store_machine.specs.declared.machine.Event.{Event}
@@ -8,7 +8,7 @@ use Rattle.store_machine.specs.declared.machine.Reply.{Reply}
 use Rattle.store_machine.specs.declared.machine.Reply.TheVariants as replies
 use Rattle.session_acts.specs.Cursors.{Calls, Cursor}
 
--- what a call does to them
+-- the effect of a call on the held pins
 pub data Effect : Type 0 where
   Takes : (slot version : ℕ) → Effect
   Returns : (slot : ℕ) → Effect
@@ -23,7 +23,7 @@ effect events.Pin reply = pin_effect reply
 effect (events.Unpin slot) reply = Returns slot
 effect _ reply = Leaves
 
--- which are held after it, and after calls, by slot and version
+-- the pins that are held after it, and after calls, by slot and version
 abbrev pub HeldBy : (ℕ → ℕ → Type 0) → Effect → ℕ → ℕ → Type 0
 HeldBy held (Takes slot version) s v = held s v ⊎ ((s ≡ slot) × (v ≡ version))
 HeldBy held (Returns slot) s v = held s v × ¬ (slot ≡ s)
@@ -33,7 +33,7 @@ abbrev pub HeldAfter : (ℕ → ℕ → Type 0) → Calls → ℕ → ℕ → Ty
 HeldAfter held [] s v = held s v
 HeldAfter held (c ∷ cs) s v = HeldAfter (HeldBy held (effect c.0 c.1)) cs s v
 
--- each pin was taken in a slot that held none
+-- each pin was taken in a slot that held no pin
 abbrev pub IsApart : (ℕ → ℕ → Type 0) → Effect → Type 0
 IsApart held (Takes slot version) = (other : ℕ) → held slot other → ⊥
 IsApart held (Returns slot) = Unit {0}
@@ -58,7 +58,7 @@ abbrev pub AreHeld : (ℕ → ℕ → Type 0) → List Cursor → Type 0
 AreHeld held [] = Unit {0}
 AreHeld held (c ∷ cs) = held c.slot c.version × ¬ HasSlot cs c.slot × AreHeld held cs
 
--- the pins that are no cursor's are the same
+-- the pins that belong to no cursor are the same
 abbrev pub SameOthers : (ℕ → ℕ → Type 0) → List Cursor → (ℕ → ℕ → Type 0) → List Cursor → Type 0
 SameOthers old cursors new cursors' =
     (slot version : ℕ) → (new slot version × ¬ HasSlot cursors' slot) ↔ (old slot version × ¬ HasSlot cursors slot)

@@ -12,25 +12,25 @@ abbrev pub first_record : List TextLine → List TextLine
 first_record [] = []
 first_record (line ∷ lines) = if ends_record line then [] else line ∷ first_record lines
 
--- the lines behind its end
+-- the lines after its end
 abbrev pub behind_record : List TextLine → List TextLine
 behind_record [] = []
 behind_record (line ∷ lines) = if ends_record line then lines else behind_record lines
 
--- so many records, in order; none where no line of it is left
+-- this number of records, in order; `None` for a record of which no line is left
 abbrev pub records_in : ℕ → List TextLine → List (Option (List TextLine))
 records_in zero lines = []
 records_in (suc n) [] = None ∷ records_in n []
 records_in (suc n) (line ∷ lines) =
     Some (first_record (line ∷ lines)) ∷ records_in n (behind_record (line ∷ lines))
 
--- how many bytes lines have, each with its LF, whether they are too long or not
+-- the number of bytes of lines, each with its LF, whether they are too long or not
 abbrev pub bytes_in : List TextLine → ℕ
 bytes_in [] = 0
 bytes_in (Whole line ∷ lines) = length line + 1 + bytes_in lines
 bytes_in (TooLong size ∷ lines) = size + 1 + bytes_in lines
 
--- how many bytes a record counts: those of its lines, and no more than this
+-- the number of bytes that a record counts: those of its lines, at most `MOST_COUNTED`
 abbrev pub counted : Option (List TextLine) → ℕ
 counted None = 0
 counted (Some lines) = min (bytes_in lines) MOST_COUNTED

@@ -1,5 +1,5 @@
--- The lines of a script as requests: a line, and with it the lines that it takes: of a molfile, or of records of an SD
--- file. For callers.
+-- The lines of a script as requests: a line, with the lines that it takes: of a molfile, or of records of an SD file.
+-- For callers.
 use Rattle.std.specs.Prelude.{◌≡◌, ◌⊎◌, ℕ, zero, suc, Bool, true, false, List, [], ◌∷◌, ◌++◌, codes, if◌then◌else◌}
 use Rattle.std.specs.Str.{bytes_eq}
 use Rattle.io_edge.specs.Lines.{TextLine, Whole, TooLong}
@@ -10,12 +10,12 @@ pub record Request : Type 0 where
   pub line : TextLine
   pub more : List TextLine
 
--- a molfile stands on the lines after it
+-- a molfile is on the lines after it
 abbrev pub TakesMolfile : TextLine → Type 0
 TakesMolfile (Whole line) = StartsMolfile line
 TakesMolfile (TooLong size) = ⊥
 
--- so many records of an SD file stand on the lines after it
+-- `count` records of an SD file are on the lines after it
 abbrev pub TakesRecords : TextLine → ℕ → Type 0
 TakesRecords (Whole line) count = (part : List ℕ) × command.TakesRecords line part count
 TakesRecords (TooLong size) count = ⊥
@@ -30,7 +30,7 @@ abbrev pub IsLast : TextLine → Type 0
 IsLast (Whole line) = EndsMolfile line
 IsLast (TooLong size) = ⊥
 
--- the lines are those of a molfile, up to and with the first that is the last of one, or all; and the rest
+-- the lines are those of a molfile, up to its last line, or all; and the rest
 abbrev pub BeginWithMolfile : List TextLine → List TextLine → List TextLine → Type 0
 BeginWithMolfile [] molfile rest = (molfile ≡ []) × (rest ≡ [])
 BeginWithMolfile (line ∷ lines) molfile rest =
@@ -42,7 +42,7 @@ abbrev pub ends_record : TextLine → Bool
 ends_record (Whole line) = bytes_eq line (codes "$$$$")
 ends_record (TooLong size) = false
 
--- the lines are those of so many records, each up to and with its end, or all; and the rest
+-- the lines are those of this number of records, each up to and with its end, or all; and the rest
 abbrev pub BeginWithRecords : ℕ → List TextLine → List TextLine → List TextLine → Type 0
 BeginWithRecords zero lines records rest = (records ≡ []) × (rest ≡ lines)
 BeginWithRecords (suc n) [] records rest = (records ≡ []) × (rest ≡ [])
@@ -67,12 +67,12 @@ BeginWithAll lines [] rest = lines ≡ rest
 BeginWithAll lines (request ∷ requests) rest = (more : List TextLine) × BeginWith lines request more
     × BeginWithAll more requests rest
 
--- none of the lines is the last of a molfile
+-- no line is the last of a molfile
 abbrev pub HasNoLast : List TextLine → Type 0
 HasNoLast [] = Unit {0}
 HasNoLast (line ∷ lines) = ¬ IsLast line × HasNoLast lines
 
--- the lines are fewer than those of so many records
+-- the lines have fewer ends of records than this number
 abbrev pub HasNoEnd : ℕ → List TextLine → Type 0
 HasNoEnd zero lines = ⊥
 HasNoEnd (suc n) [] = Unit {0}
@@ -84,8 +84,8 @@ IsPartOfRequest [] = Unit {0}
 IsPartOfRequest (line ∷ lines) = (TakesMolfile line × HasNoLast lines)
     ⊎ ((count : ℕ) × TakesRecords line count × HasNoEnd count lines)
 
--- The requests are all that are whole in these lines: whatever lines follow, the requests are the first, and what they
--- leave of these lines is a part of a request
+-- The requests are all the whole ones in these lines: whatever lines follow, the requests are the first, and the rest
+-- of these lines is a part of a request
 abbrev pub AreAllWhole : List TextLine → List Request → Type 0
 AreAllWhole lines requests = (left : List TextLine) × IsPartOfRequest left
     × ((more : List TextLine) → BeginWithAll (lines ++ more) requests (left ++ more))

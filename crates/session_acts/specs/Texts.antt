@@ -1,4 +1,4 @@
--- For callers: what the texts of a script mean.
+-- For callers: the meaning of the texts of a script.
 use Rattle.std.specs.Prelude.{◌≢◌, ℕ, List, Ok, Err}
 use Rattle.mol_finish.specs.Structure.{IsAnswer}
 use Rattle.mol_finish.specs.declared.fault.Format.{Format}

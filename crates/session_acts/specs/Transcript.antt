@@ -1,4 +1,4 @@
--- For callers: what a session writes for a script, and the calls that it makes of its service, request by request.
+-- For callers: the output of a session for a script, and the calls that it makes of its service, request by request.
 -- Other callers' steps do not occur.
 use Rattle.std.specs.Prelude.{◌≡◌, ◌⊎◌, ℕ, List, [], ◌++◌}
 use Rattle.io_edge.specs.Lines.{TextLine}
@@ -13,7 +13,7 @@ abbrev pub IsPrefixOf : {X : Type 0} → List X → List X → Type 0
 IsPrefixOf front whole = (rest : List _) × (front ++ rest ≡ whole)
 
 -- The first requests of a script were answered one after another, by these calls and this text; these lines are left,
--- and this is kept then.
+-- and `standing` is kept then.
 pub record IsDialogue (size : ℕ) (lines left : List TextLine) (calls : Calls) (text : List ℕ)
     (standing : Standing) : Type 0 where
   pub exchanges : List Exchange
@@ -21,15 +21,14 @@ pub record IsDialogue (size : ℕ) (lines left : List TextLine) (calls : Calls) 
   pub exchanged : AreExchanged size nothing_kept exchanges calls standing
   pub said : text ≡ replies_of exchanges
 
--- the text is the replies to the requests that all the lines are; at the end the pins of the open cursors are given
+-- the text is the replies to the requests that are all the lines; at the end the pins of the open cursors are given
 -- back
 abbrev pub IsTranscript : ℕ → List TextLine → Calls → List ℕ → Type 0
 IsTranscript size lines calls text =
     (own : Calls) × (standing : Standing) × IsDialogue size lines [] own text standing
     × (calls ≡ own ++ unpins standing.cursors)
 
--- Some first requests of a script were answered, and then there may be the calls of the next one and a prefix of its
--- reply.
+-- The first requests of a script were answered. Then there may be the calls of the next one and a prefix of its reply.
 pub record Stops (size : ℕ) (lines : List TextLine) (calls : Calls) (text : List ℕ)
     (standing : Standing) : Type 0 where
   pub left : List TextLine
@@ -49,8 +48,8 @@ IsTranscriptPrefix size lines calls text =
     × (calls ≡ own ++ unpins standing.cursors)
 
 -- The service was found worn. In the answer to a request: the first of its calls were made, nothing of its reply was
--- put, and no pin was given back. Or while the pins were given back: the first of them were. From the call that was not
--- answered on nothing was called or put.
+-- put, and no pin was given back. Or while the pins were given back: the first of them were. After the call that was
+-- not answered nothing was called or put.
 pub data WornAt (size : ℕ) (lines : List TextLine) (calls : Calls) (text : List ℕ) : Type 0 where
   InAnswer : (left more : List TextLine) (own its part : Calls) (standing after : Standing) (request : Request)
       (said : Lines) (answered : IsDialogue size lines left own text standing) (next : BeginWith left request more)

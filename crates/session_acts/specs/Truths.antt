@@ -1,5 +1,5 @@
--- For callers: the laws of what a session lists. Its searches, cursors and watches list the hits that the history has,
--- and its lookups the structures that are the same or most similar there, whatever others did meanwhile.
+-- For callers: the laws of a session's listings. Its searches, cursors and watches list the hits in the history, and
+-- its lookups the structures that are the same or most similar there, whatever other callers did meanwhile.
 use Rattle.std.specs.Prelude.{◌≡◌, ◌≤◌, ◌<◌, ◌↔◌, ◌*◌, ℕ, Bool, Contains, List, [], ◌∷◌, ◌++◌, drop, length, take}
 use Rattle.chem_core.specs.Molecule.{Molecule}
 use Rattle.io_edge.specs.Lines.{TextLine}
@@ -36,8 +36,8 @@ use Rattle.session_acts.specs.Watching.{Standing, nothing_kept}
 use Rattle.session_acts.specs.declared.end.EndStatus.{EndStatus}
 use Rattle.session_acts.specs.declared.end.EndStatus.TheVariants.{Done}
 
--- These are the hits of the pattern at a version of the history, each once, ascending; and so many records have in
--- their print what the pattern needs
+-- These are the hits of the pattern at a version of the history, each once, ascending; and `tried` records have in
+-- their print the bits that the pattern needs
 pub record AreAllHits (h : History) (version : ℕ) (pattern : PatternTerm) (tried : ℕ) (hits : List ℕ) : Type 0 where
   pub are : AreHits h version pattern hits
   pub want : List Bool
@@ -46,12 +46,12 @@ pub record AreAllHits (h : History) (version : ℕ) (pattern : PatternTerm) (tri
   pub all : AreTried h version want screened
   pub count : tried ≡ length screened
 
--- a version that the history has, and that is no older than any that these calls were told
+-- a version in the history that is no older than any that these calls returned
 abbrev pub IsUpToDate : History → Calls → ℕ → Type 0
 IsUpToDate h before version = (version ≤ head h) × ((v : ℕ) → IsTold before v → v ≤ version)
 
--- A search that came to its end listed the hits of the history, at a version no older than any that its caller was told
--- before
+-- A search that came to its end listed the hits of the history, at a version no older than any that earlier calls of
+-- its caller returned
 abbrev pub SearchesAreHits : Type 0
 SearchesAreHits =
     (s t : State) (steps : List Step) (own : ℕ → Bool) (size : ℕ) (pattern : PatternTerm) (before its after : Calls)
@@ -60,7 +60,7 @@ SearchesAreHits =
     → (listed : Searches size pattern its lines) → listed.place ≡ End
     → AreAllHits t.history listed.version pattern listed.tried listed.hits × IsUpToDate t.history before listed.version
 
--- what was listed for the text of a pattern, with the numbers of its end, at a version of the history
+-- the list for the text of a pattern, with the numbers of its end, at a version of the history
 pub record IsTrueList (h : History) (text : List ℕ) (version tried count : ℕ) (hits : List ℕ) : Type 0 where
   pub within : version ≤ head h
   pub pattern : PatternTerm
@@ -77,7 +77,7 @@ SearchesAreTrue h exchanges =
     → IsTrueList h text version tried count (hits_in x.lines) × ((v : ℕ) → IsShown before v → v ≤ version)
 
 -- Each cursor that was opened, and whose pages came to their end before it was closed, listed the hits at the version
--- of its opening; and that is no older than any version that a line before the opening shows
+-- of its opening. That is no older than any version that a line before the opening shows
 abbrev pub CursorsAreTrue : History → List Exchange → Type 0
 CursorsAreTrue h exchanges =
     (before between after : List Exchange) (x y : Exchange) (name text hits : List ℕ) (opened version tried count : ℕ)
@@ -88,13 +88,12 @@ CursorsAreTrue h exchanges =
     → AreListed name (between ++ y ∷ []) hits
     → IsTrueList h text version tried count hits × (version ≡ opened) × ((v : ℕ) → IsShown before v → v ≤ version)
 
--- the lines list the hits among the first of these records, as many as a page has, and say `more` exactly where some
--- are behind them
+-- the lines list the hits among the first `size` of these records, and say `more` exactly if more records follow
 pub record IsPageOf (pattern : PatternTerm) (size : ℕ) (records : List Found) (lines : Lines) : Type 0 where
   pub hits : AreMatched pattern (take size records) (hits_in lines)
   pub more : Contains lines line.More ↔ (size < length records)
 
--- the page with this number, from 0, of the list of what is tried for the pattern of a text at a version of the history
+-- page k, from 0, of the list of the records tried for the pattern of a text at a version of the history
 pub record IsTruePage (h : History) (text : List ℕ) (version size k : ℕ) (lines : Lines) : Type 0 where
   pub pattern : PatternTerm
   pub is : IsPatternOf text pattern
@@ -104,8 +103,8 @@ pub record IsTruePage (h : History) (text : List ℕ) (version size k : ℕ) (li
   pub found : AreFound (IsScreened want) (snapshot h version) tried
   pub page : IsPageOf pattern size (drop (k * size) tried) lines
 
--- Each reply to `next` that gave a page of a cursor listed the hits among its piece of what is tried at the version of
--- the cursor's opening, whether the cursor came to its end or not
+-- Each reply to `next` that gave a page of a cursor listed the hits among its piece of the records tried. These are of
+-- the version of the cursor's opening, whether the cursor came to its end or not
 abbrev pub PagesAreTrue : History → ℕ → List Exchange → Type 0
 PagesAreTrue h size exchanges =
     (before between after : List Exchange) (x y : Exchange) (name text : List ℕ) (version k : ℕ)
@@ -115,14 +114,14 @@ PagesAreTrue h size exchanges =
     → IsCommand y.request (command.Next name) → GivePage y.lines
     → IsTruePage h text version size k y.lines
 
--- At a version of the history these are live with the same structure as that of a text, each once, ascending
+-- These are live at a version of the history with the structure of a text, each once, ascending
 pub record AreSames (h : History) (text : List ℕ) (version : ℕ) (ids : List ℕ) : Type 0 where
   pub molecule : Molecule
   pub structure : IsStructureOf text molecule
   pub are : AreAnswers (IsSameAs molecule) h version ids
 
--- what was listed as the same as the structure of a text, with the numbers of its end, at a version of the history: so
--- many records have in their print that of the structure
+-- the list for `same` of a text, with the numbers of its end, at a version of the history: `tried` records have in
+-- their print the bits of that of the structure
 pub record IsTrueSameList (h : History) (text : List ℕ) (version tried count : ℕ) (hits : List ℕ) : Type 0 where
   pub within : version ≤ head h
   pub same : AreSames h text version hits
@@ -133,7 +132,8 @@ pub record IsTrueSameList (h : History) (text : List ℕ) (version tried count :
   pub tried_is : tried ≡ length screened
   pub length_is : count ≡ length hits
 
--- each `same` that came to its end listed what is the same, at a version no older than any that a line before it shows
+-- each `same` that came to its end listed the records with the same structure, at a version no older than any that a
+-- line before it shows
 abbrev pub SamesAreTrue : History → List Exchange → Type 0
 SamesAreTrue h exchanges =
     (before after : List Exchange) (x : Exchange) (text : List ℕ) (version tried count : ℕ)
@@ -141,16 +141,16 @@ SamesAreTrue h exchanges =
     → IsCommand x.request (command.Same text) → Contains x.lines (line.End version tried count)
     → IsTrueSameList h text version tried count (hits_in x.lines) × ((v : ℕ) → IsShown before v → v ≤ version)
 
--- These were found to be the same as the structure of a text, at some version of the history that is no older than any
--- that the lines before show
+-- These were found to have the structure of a text, at a version of the history that is no older than any that the
+-- lines before show
 pub record AreFoundSame (h : History) (before : List Exchange) (text : List ℕ) (ids : List ℕ) : Type 0 where
   pub version : ℕ
   pub within : version ≤ head h
   pub no_older : (v : ℕ) → IsShown before v → v ≤ version
   pub same : AreSames h text version ids
 
--- Each `register-new` that was accepted found nothing that is the same at a version before its commit, and each that was
--- refused for what is the same named the least
+-- Each `register-new` that was accepted found no record with the same structure at a version before its commit. Each
+-- that was refused for such a record named the least
 abbrev pub RegistrationsAreTrue : History → List Exchange → Type 0
 RegistrationsAreTrue h exchanges =
     (before after : List Exchange) (x : Exchange) (id : ℕ) (text : List ℕ)
@@ -160,8 +160,8 @@ RegistrationsAreTrue h exchanges =
     × ((same : ℕ) → Contains x.lines (line.Refused (refusals.Same same))
     → (more : List ℕ) × AreFoundSame h before text (same ∷ more))
 
--- what was listed as most similar to the print of the structure of a text, with the numbers of its end, at a version of
--- the history: the best of all that are live, each with the bits in both prints and those in at least one
+-- the list for `similar` of a text, with the numbers of its end, at a version of the history. It is the best of all
+-- live records, each with the numbers of bits in both prints and in at least one
 pub record IsTrueSimilarList (h : History) (p q k : ℕ) (text : List ℕ) (version scored count : ℕ) (likes : List Offer)
     : Type 0 where
   pub within : version ≤ head h
@@ -184,7 +184,7 @@ SimilarsAreTrue h exchanges =
     → IsTrueSimilarList h p q k text version scored count (likes_in x.lines)
     × ((v : ℕ) → IsShown before v → v ≤ version)
 
--- what was found of a pattern that is watched, for its text: the hits at a version of the history, and their number
+-- the hits of a watched pattern, for its text: those at a version of the history, and their number
 pub record IsTrueWatch (h : History) (text : List ℕ) (version count : ℕ) (hits : List ℕ) : Type 0 where
   pub within : version ≤ head h
   pub pattern : PatternTerm
@@ -192,8 +192,7 @@ pub record IsTrueWatch (h : History) (text : List ℕ) (version count : ℕ) (hi
   pub are : AreHits h version pattern hits
   pub length_is : count ≡ length hits
 
--- each `watch` that was answered told how many hits there are, at a version no older than any that a line before it
--- shows
+-- each `watch` that was answered shows the number of hits, at a version no older than any that a line before it shows
 abbrev pub WatchingsAreTrue : History → List Exchange → Type 0
 WatchingsAreTrue h exchanges =
     (before after : List Exchange) (x : Exchange) (name text : List ℕ) (version count : ℕ)
@@ -202,7 +201,7 @@ WatchingsAreTrue h exchanges =
     → (hits : List ℕ) × IsTrueWatch h text version count hits × ((v : ℕ) → IsShown before v → v ≤ version)
 
 -- Each `hits` that came to its end listed the hits of the pattern that is watched under its name, whoever committed
--- meanwhile, at a version no older than any that a line before it shows
+-- meanwhile. Its version is no older than any that a line before it shows
 abbrev pub WatchesAreTrue : History → List Exchange → Type 0
 WatchesAreTrue h exchanges =
     (before between after : List Exchange) (x y : Exchange) (name text : List ℕ) (first found version count rebuilt : ℕ)
@@ -213,8 +212,7 @@ WatchesAreTrue h exchanges =
     → IsTrueWatch h text version count (hits_in y.lines)
     × ((v : ℕ) → IsShown (before ++ x ∷ between) v → v ≤ version)
 
--- A request that was answered by these lines made a change as commit v: the calls by which it may be answered so have
--- one that did
+-- The request made a change as commit v: calls that may answer it by these lines have that commit among them
 pub record IsMadeBy (size : ℕ) (x : Exchange) (c : Change) (v : ℕ) : Type 0 where
   pub here : Standing
   pub then : Standing
@@ -231,7 +229,7 @@ CommitsAreTrue h size exchanges =
     → exchanges ≡ before ++ x ∷ after → Contains x.lines (line.Accepted v)
     → (c : Change) × IsMadeBy size x c v × IsCommit h v c
 
--- every commit, search, cursor, lookup and watch of the dialogue, by pages of a size, told what the history has
+-- every commit, search, cursor, lookup and watch of the dialogue, by pages of a size, is true by the history
 pub record AreTrue (h : History) (size : ℕ) (exchanges : List Exchange) : Type 0 where
   pub commits : CommitsAreTrue h size exchanges
   pub searches : SearchesAreTrue h exchanges
@@ -251,7 +249,7 @@ DialoguesAreTrue =
     → IsSound s → IsRun s steps t → IsCalm steps → calls_of own steps ≡ calls ++ more
     → AreExchanged size nothing_kept exchanges calls standing → AreTrue t.history size exchanges
 
--- A transcript that is true by a history: the text is the replies of a true dialogue over all the lines, and the calls
+-- A transcript that is true by a history. The text is the replies of a true dialogue over all the lines, and the calls
 -- of the dialogue are the first of these
 pub record IsTrueTranscript (h : History) (size : ℕ) (lines : List TextLine) (calls : Calls) (text : List ℕ)
     : Type 0 where
@@ -261,7 +259,8 @@ pub record IsTrueTranscript (h : History) (size : ℕ) (lines : List TextLine) (
   pub made : IsPrefixOf own calls
   pub are_true : AreTrue h size dialogue.exchanges
 
--- The same of a session that stopped early: the text is a beginning of the replies of a dialogue over the first lines
+-- As `IsTrueTranscript`, of a session that stopped early: the text is a beginning of the replies of a dialogue over the
+-- first lines
 pub record IsTrueBeginning (h : History) (size : ℕ) (lines : List TextLine) (calls : Calls) (text : List ℕ)
     : Type 0 where
   pub left : List TextLine
@@ -273,12 +272,12 @@ pub record IsTrueBeginning (h : History) (size : ℕ) (lines : List TextLine) (c
   pub made : IsPrefixOf own calls
   pub are_true : AreTrue h size dialogue.exchanges
 
--- what is true of what was served of a script, by how the session ended
+-- the truth of the output for a script, by how the session ended
 abbrev pub IsTrueService : EndStatus → History → ℕ → List TextLine → Calls → List ℕ → Type 0
 IsTrueService Done h size lines calls text = IsTrueTranscript h size lines calls text
 IsTrueService _ h size lines calls text = IsTrueBeginning h size lines calls text
 
--- a run from a sound state in which these are the caller's own calls, perhaps with others behind them
+-- a run from a sound state in which these are the caller's own calls, perhaps with others after them
 pub record IsInRun (calls : Calls) (h : History) : Type 0 where
   pub before : State
   pub after : State
@@ -291,7 +290,7 @@ pub record IsInRun (calls : Calls) (h : History) : Type 0 where
   pub made : calls_of own steps ≡ calls ++ more
   pub is : h ≡ after.history
 
--- what a session served over such a run is true by the history at the run's end
+-- the output of a session over such a run is true by the history at the run's end
 abbrev pub ServicesAreTrue : Type 0
 ServicesAreTrue =
     (end : EndStatus) (size : ℕ) (lines : List TextLine) (calls : Calls) (text : List ℕ) (h : History)

@@ -1,5 +1,5 @@
--- For callers: the standing searches of a session, what else it keeps between its requests, and what its commits do to
--- them.
+-- For callers: the watches of a session, the other state that it keeps between its requests, and the effects of its
+-- commits on the watches.
 use Rattle.std.specs.Prelude.{◌≡◌, ◌≢◌, ◌↔◌, ◌+◌, ◌-◌, ◌^◌, Bool, Contains, filter, find, if◌then◌else◌, List, [], ◌∷◌, min, None, not, Option, ℕ}
 use Rattle.std.specs.List.{AllZip}
 use Rattle.std.specs.List.Sorted.{IsStrictlyIncreasing}
@@ -15,7 +15,7 @@ use Rattle.store_machine.specs.declared.machine.Reply.{Reply}
 use Rattle.store_machine.specs.declared.machine.Reply.TheVariants as replies
 use Rattle.session_acts.specs.Cursors.{Calls, Cursor}
 
--- A pattern that is watched under a name: its hits at a version, and how often they were searched anew
+-- A pattern that is watched under a name: its hits at a version, and the number of times they were searched anew
 pub record Watched : Type 0 where
   pub name : List ℕ
   pub pattern : PatternTerm
@@ -23,7 +23,7 @@ pub record Watched : Type 0 where
   pub hits : List ℕ
   pub rebuilt : ℕ
 
--- what a session keeps between its requests
+-- the state that a session keeps between its requests
 pub record Standing : Type 0 where
   pub cursors : List Cursor
   pub watches : List Watched
@@ -44,8 +44,8 @@ IsUnwatched watches name = watch_of name watches ≡ None
 abbrev pub without : List ℕ → List Watched → List Watched
 without name watches = filter (λ w. not (is_of name w)) watches
 
--- a watch before its hits are listed, and one whose hits were searched anew. That is counted up to the last number of
--- 32 bits
+-- a watch before its hits are listed, and one whose hits were searched anew. The number of times is counted up to 2 ^
+-- 32 - 1
 abbrev pub new_watch : List ℕ → PatternTerm → ℕ → List ℕ → Watched
 new_watch name pattern version hits =
     record { name = name; pattern = pattern; version = version; hits = hits; rebuilt = 0 }
@@ -54,7 +54,7 @@ abbrev pub rebuilt_watch : ℕ → List ℕ → Watched → Watched
 rebuilt_watch version hits w =
     record w { version = version; hits = hits; rebuilt = min (w.rebuilt + 1) (2 ^ 32 - 1) }
 
--- the watch of a name is that, any other as it was
+-- the watch of a name with these hits, any other as it was
 abbrev pub rebuilt_in : List ℕ → ℕ → List ℕ → Watched → Watched
 rebuilt_in name version hits w = if is_of name w then rebuilt_watch version hits w else w
 
@@ -64,18 +64,18 @@ LeavesHit pattern (Register id format text) = IsMatched pattern format text
 LeavesHit pattern (Revise id format text) = IsMatched pattern format text
 LeavesHit pattern (Withdraw id) = ⊥
 
--- hits over a change: its identifier is one exactly where the change leaves a hit, and each other as before
+-- hits over a change: its identifier is a hit exactly if the change leaves one, and each other is as before
 pub record IsListOver (pattern : PatternTerm) (change : Change) (old new : List ℕ) : Type 0 where
   pub ascending : IsStrictlyIncreasing new
   pub own : Contains new (id_of change) ↔ LeavesHit pattern change
   pub others : (id : ℕ) → id ≢ id_of change → Contains new id ↔ Contains old id
 
--- a watch brought over the commit of a version
+-- a watch after the commit of a version
 pub record IsMoved (version : ℕ) (change : Change) (old new : Watched) : Type 0 where
   pub version_is : new.version ≡ version
   pub list : IsListOver old.pattern change old.hits new.hits
 
--- a watch over the commit of a version: one at the version before is brought over it, any other is as it was
+-- a watch over the commit of a version: one at the version before is updated by it, any other is as it was
 pub record IsNoted (version : ℕ) (change : Change) (old new : Watched) : Type 0 where
   pub name : new.name ≡ old.name
   pub pattern : new.pattern ≡ old.pattern

@@ -9,9 +9,9 @@ pub enum EndStatus {
     SourceFault,
     /// The sink failed.
     SinkFault,
-    /// Memory ran out, and not even that could be said.
+    /// Memory ran out, and not even the line that says so could be written.
     NoMemory,
-    /// As many bytes were taken as may be, and the input goes on.
+    /// The limit of input bytes was taken, and the input goes on.
     InputTooLong,
     /// The service answers no call any more.
     Worn,

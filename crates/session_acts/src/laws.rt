@@ -1,4 +1,4 @@
-//! The laws of what a session lists: joined with a run of the store's machine, what it lists is the history's.
+//! The laws of a session's listings: joined with a run of the store's machine, they are those of the history.
 ghost use Rattle.session_acts.specs.Truths.{DialoguesAreTrue, SearchesAreHits, ServicesAreTrue};
 
 use lookup::{sames_are_answers, similars_are_answers};
@@ -8,8 +8,8 @@ use store_machine::{
     calls_give_pages, commits_change, needs_screen, replies_tell, runs_grow, snapshots_stay,
 };
 
-/// A search that came to its end listed exactly the hits of its pattern in the history, at a version no older than any
-/// that its caller was told before.
+/// A search that came to its end listed exactly the hits of its pattern in the history. Its version is no older than
+/// any that earlier calls of its caller returned.
 pub fn searches_are_hits()
     ensures { SearchesAreHits }
 {
@@ -22,7 +22,7 @@ pub fn searches_are_hits()
 }
 
 /// In a dialogue, each search and each cursor that came to its end, and each watch, listed exactly the hits of its
-/// pattern, and each lookup exactly what is the same or most similar.
+/// pattern. Each lookup listed exactly the same or the most similar structures.
 pub fn dialogues_are_true()
     ensures { DialoguesAreTrue }
 {
@@ -38,7 +38,7 @@ pub fn dialogues_are_true()
     structures_are_molecules();
 }
 
-/// What a session served of a script, the contract of `session`, is the replies of such a dialogue.
+/// The output of a session for a script, as in the contract of `session`, is the replies of such a dialogue.
 pub fn services_are_true()
     ensures { ServicesAreTrue }
 {

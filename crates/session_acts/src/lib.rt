@@ -1,9 +1,9 @@
-//! What a line of a script means, and what a transcript tells of a history. Nothing runs here but three laws.
+//! The meaning of a script's lines, and the truth of a transcript by a history. Nothing runs here but three laws.
 //!
-//! A request is a line, and with it the lines of its molfile or of its records where it takes them. The definitions say
-//! which calls of a store answer it, by which lines, and what is kept then; a transcript is such answers one after
-//! another. The laws say that what it lists is what the store's history has. A session (`session_run`) and a drill
-//! (`drill_run`) stand on them.
+//! A request is a line, with the lines of its molfile or of its records if it takes them. The definitions say which
+//! calls of a store answer it, by which lines, and which state is kept then. A transcript is such answers one after
+//! another. The laws say that its listings are those of the store's history. A session (`session_run`) and a drill
+//! (`drill_run`) are built on them.
 #![tactic(auto)]
 
 mod end;

@@ -1,4 +1,4 @@
--- For private clauses alone: what is seen and told of a watch, and how watches come and go.
+-- For private clauses alone: the view of a watch, the lines of its hits, and how watches come and go.
 use Rattle.std.specs.Prelude.{◌≡◌, ◌⊎◌, ◌++◌, [], ◌∷◌, length, List, map, None, Ok, Option, Result, Some, ℕ}
 use Rattle.shell_lang.specs.Reply as line
 use Rattle.shell_lang.specs.Reply.{text_of}
@@ -11,7 +11,7 @@ use Rattle.session_run.specs.Made.{Tells, TellsAll}
 use Rattle.session_run.specs.declared.stop.Stop.{Stop}
 use Rattle.session_run.specs.declared.watches.View.{View}
 
--- what is seen of a watch
+-- the view of a watch
 abbrev pub IsViewOf : View → Option Watch → Type 0
 IsViewOf v None = ⊥
 IsViewOf v (Some w) =
@@ -25,7 +25,7 @@ Adds name pattern version hits old new out out' result =
     × Tells (line.Watching version (length hits)) out out' result)
     ⊎ ((new ≡ old) × Tells line.MemoryFault out out' result)
 
--- hits were listed, or instead that memory ran out
+-- hits were listed, or the line says that memory ran out
 abbrev pub TellsHits : ℕ → List ℕ → ℕ → List ℕ → List ℕ → Result (Unit {0}) Stop → Type 0
 TellsHits version hits rebuilt out out' result = TellsAll (hit_lines version hits rebuilt) out out' result
 
@@ -37,7 +37,7 @@ Fills name version hits rebuilt old new out out' result =
     × (out' ≡ out ++ text_of (hit_lines version hits rebuilt)))
     ⊎ ((new ≡ old) × Tells line.MemoryFault out out' result)
 
--- the watch of a name was taken out, or there is none
+-- the watch of a name was removed, or there is no such watch
 abbrev pub Unwatches : List ℕ → List Watched → List Watched → List ℕ → List ℕ → Result (Unit {0}) Stop → Type 0
 Unwatches name old new out out' result =
     ((w : Watched) × (watch_of name old ≡ Some w) × (new ≡ without name old) × Tells line.Unwatched out out' result)

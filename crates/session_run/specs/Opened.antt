@@ -14,7 +14,7 @@ named e = record { name = e.0; walk = e.1 }
 abbrev pub opened : Cursors → List rust.Cursor
 opened cursors = map named cursors.by_name.entries
 
--- the cursor of the name was taken out, and the others keep their order
+-- the cursor of the name was removed, and the others keep their order
 pub record IsTaken (name : List ℕ) (old : List rust.Cursor) (c : rust.Cursor) (new : List rust.Cursor) : Type 0 where
   pub place : ℕ
   pub named_at : IsNamedAt old name place

@@ -54,7 +54,7 @@ abbrev pub IsTextRefusal : TextFault → line.Reply → Type 0
 IsTextRefusal faults.NoMemory said = said ≡ line.MemoryFault
 IsTextRefusal fault said = said ≡ line.Refused (refusals.Text fault)
 
--- the line of a request with a molfile of which no text is kept, for this cause
+-- the line of a request with a molfile whose text is not kept, for this cause
 abbrev pub IsLineWithout : TextFault → Result MolfileChange LineRefusal → line.Reply → Type 0
 IsLineWithout fault (Ok change) said = IsTextRefusal fault said
 IsLineWithout fault (Err refusal) said = said ≡ line.Refused (refusals.Line refusal)

@@ -1,4 +1,4 @@
--- For private clauses alone: how a search begins, and what it answers from its pin on.
+-- For private clauses alone: how a search begins, and its answer from its pin on.
 use Rattle.std.specs.Prelude.{◌≡◌, ◌++◌, ℕ, Bool, true, false, List, [], ◌∷◌, Option, None, Some, Result, Ok, Err}
 use Rattle.par_search.specs.Searches.{SearchTerm}
 use Rattle.par_search.specs.declared.fault.SearchFault.{SearchFault}
@@ -36,7 +36,7 @@ Begins Made IsWorn (Err faults.Pins) = Made ((events.Pin, replies.NoPin) ∷ [])
 Begins Made IsWorn (Err faults.Worn) = Made [] × IsWorn
 Begins Made IsWorn (Err faults.NoMemory) = Made []
 
--- the line where none began
+-- the line of a search that did not begin
 abbrev pub IsFaultLine : SearchFault → Result written.Reply Stop → Type 0
 IsFaultLine faults.Pins said = said ≡ Ok (lines.Refused refusals.Pins)
 IsFaultLine faults.NoMemory said = said ≡ Ok lines.MemoryFault
@@ -48,14 +48,14 @@ Returns Made IsWorn slot (Ok _) = Made ((events.Unpin slot, replies.Unpinned) �
 Returns Made IsWorn slot (Err stops.Worn) = Made [] × IsWorn
 Returns Made IsWorn slot (Err stops.NoMemory) = ⊥
 
--- how the pins of all cursors are
+-- how the pins of all cursors are given back
 abbrev pub ReturnsAll : (Calls → Type 0) → Type 0 → List Cursor → Result (Unit {0}) Stop → Type 0
 ReturnsAll Made IsWorn cursors (Ok _) = Made (unpins cursors)
 ReturnsAll Made IsWorn cursors (Err stops.Worn) =
     (calls : Calls) × Made calls × IsPrefixOf calls (unpins cursors) × IsWorn
 ReturnsAll Made IsWorn cursors (Err stops.NoMemory) = ⊥
 
--- pages, and the pin is given back
+-- pages are listed, and the pin is given back
 pub record PinAnswer (search : SearchTerm) (calls : Calls) (said : Lines) (after : Unit {0}) : Type 0 where
   pub place : Place
   pub pages : Calls

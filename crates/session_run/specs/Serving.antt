@@ -10,7 +10,7 @@ use Rattle.session_acts.specs.Watching.{Standing, nothing_kept}
 use Rattle.session_acts.specs.declared.end.EndStatus.{EndStatus}
 use Rattle.session_acts.specs.declared.end.EndStatus.TheVariants.{Done, InputTooLong, SourceFault, Worn}
 
--- all requests that are whole in the bytes that were taken were answered, and nothing else was called or written
+-- all whole requests in the bytes that were taken were answered, and nothing else was called or written
 abbrev pub AnswersTaken : ℕ → Calls → Standing → List ℕ → List ℕ → Type 0
 AnswersTaken size calls standing got text = (exchanges : List Exchange)
     × AreAllWhole (whole_lines got) (requests_of exchanges) × AreExchanged size nothing_kept exchanges calls standing
@@ -25,13 +25,13 @@ Ends InputTooLong size lines calls standing text =
     (left : List TextLine) × IsDialogue size lines left calls text standing
 Ends _ size lines calls standing text = Stops size lines calls text standing
 
--- what was written of a script, where the source and the sink tell
+-- the output for a script, if the contents of the source and the sink are known
 abbrev pub Script : EndStatus → ℕ → Option (List ℕ) → Option (List ℕ) → Option (List ℕ) → Calls → Standing
     → Type 0
 Script end size before put put' calls standing =
     IfSome before (λ bytes. Writes put put' (λ text. Ends end size (lines_of bytes) calls standing text))
 
--- and what was answered of the bytes that were taken
+-- the output for a script; after an input fault it is the answers to the bytes that were taken
 pub record Serves (end : EndStatus) (size : ℕ) (before after put put' : Option (List ℕ)) (calls : Calls)
     (standing : Standing) : Type 0 where
   pub script : Script end size before put put' calls standing

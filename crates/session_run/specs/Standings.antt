@@ -1,4 +1,4 @@
--- For private clauses alone: what a responder keeps, as contracts of callers see it, and watches over a commit.
+-- For private clauses alone: the state of a responder, as contracts of callers see it, and watches over a commit.
 use Rattle.std.specs.Prelude.{◌≡◌, Err, List, map, Ok, Result, ℕ}
 use Rattle.smarts_parse.specs.Pattern.{pattern_of}
 use Rattle.store_core.specs.declared.words.CommitFault.{CommitFault}
@@ -29,11 +29,11 @@ both cursors watches = record { cursors = cursors; watches = watches }
 abbrev pub standing_of : Responder → Standing
 standing_of r = both (cursors_of (opened r.cursors)) (watched_all r.watches.watches)
 
--- watches by the answer to a commit
+-- watches after a commit, by its answer
 abbrev pub IsNotedBy : Result ℕ CommitFault → Change → List Watched → List Watched → Type 0
 IsNotedBy (Ok version) change old new = AreNoted version change old new
 IsNotedBy (Err fault) change old new = new ≡ old
 
--- this was done, and the watches follow the commits among its calls
+-- `Is` holds of the calls and lines, and the watches follow the commits among the calls
 abbrev pub Keeps : (Calls → Lines → Type 0) → List Watched → Calls → Lines → List Watched → Type 0
 Keeps Is old calls lines new = Is calls lines × AfterCalls calls old new

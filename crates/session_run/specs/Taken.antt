@@ -1,4 +1,4 @@
--- For private clauses alone: what is taken and kept of the records of an SD file.
+-- For private clauses alone: the parts that are taken and kept of the records of an SD file.
 use Rattle.std.specs.Prelude.{◌≡◌, ◌⊎◌, ◌≤◌, ◌<◌, ℕ, suc, ◌+◌, true, false, List, [], ◌∷◌, length, min, Option, None, Some, Result, IfSome}
 use Rattle.std.specs.declared.alloc.Global.{Global}
 use Rattle.std.specs.declared.vec.Vec.{Vec}
@@ -18,7 +18,7 @@ use Rattle.session_run.specs.declared.records.Part.{Part}
 use Rattle.session_run.specs.declared.records.Part.TheVariants as parts
 use Rattle.session_run.specs.declared.records.SdTexts.{SdTexts}
 
--- what was taken of the lines of a record: their text, unless a line is too long, or the text is big or lost
+-- the part that was taken of the lines of a record: their text, unless a line is too long, or the text is big or lost
 abbrev pub IsPart : Part → List TextLine → List ℕ → Type 0
 IsPart parts.Text lines text =
     (has_long lines ≡ false) × (text ≡ molfile_text lines) × (length (molfile_text lines) < MOST_COUNTED)
@@ -28,26 +28,26 @@ IsPart parts.Big lines text = (has_long lines ≡ false) × (MOST_COUNTED ≤ le
 IsPart (parts.Lost size) lines text =
     (has_long lines ≡ false) × (size ≡ length (molfile_text lines)) × (length (molfile_text lines) < MOST_COUNTED)
 
--- the same of a record, if a line of it was left
+-- as `IsPart`, of a record, if a line of it was left
 abbrev pub IsRecordPart : Option Part → Option (List TextLine) → List ℕ → Type 0
 IsRecordPart None r text = r ≡ None
 IsRecordPart (Some part) r text = (lines : List TextLine) × (r ≡ Some lines) × IsPart part lines text
 
--- what is kept of a record, where the texts up to and with it count so many bytes
+-- the part of a record that is kept, if the texts up to and with it count `sum` bytes
 abbrev pub IsKept : ℕ → Option (List TextLine) → Kept → List ℕ → Type 0
 IsKept sum r keeps.Text text = (lines : List TextLine) × (r ≡ Some lines) × (sum ≤ MOST_SD_BYTES)
     × (has_long lines ≡ false) × (text ≡ molfile_text lines)
 IsKept sum r (keeps.Refused refusal) text = (id : ℕ) → MayRegister id sum r (Say (Refused refusal))
 IsKept sum r keeps.Lost text = Unit {0}
 
--- the same of records, of which the first may stand in the lists, where the texts before count so many bytes
+-- as `IsKept`, of records, the first of which may be in the lists, if the texts before count `sum` bytes
 abbrev pub AreKept : ℕ → List (Option (List TextLine)) → List Kept → List (Vec ℕ Global) → Type 0
 AreKept sum records [] texts = Unit {0}
 AreKept sum [] (k ∷ ks) texts = ⊥
 AreKept sum (r ∷ rs) (k ∷ ks) [] = ⊥
 AreKept sum (r ∷ rs) (k ∷ ks) (t ∷ ts) = IsKept (sum + counted r) r k t.items × AreKept (sum + counted r) rs ks ts
 
--- how many bytes records count
+-- the number of bytes that records count
 abbrev pub counted_all : List (Option (List TextLine)) → ℕ
 counted_all [] = 0
 counted_all (r ∷ rs) = counted r + counted_all rs
@@ -69,7 +69,7 @@ abbrev pub record_of : List TextLine → Option (List TextLine)
 record_of [] = None
 record_of (line ∷ lines) = Some (first_record (line ∷ lines))
 
--- what is answered of a record, where its text was read with this answer
+-- the kept part of a record and the answer of making it, ready to be registered
 abbrev pub IsReady : ℕ → ℕ → Option (List TextLine) → Option Kept → Option (Result Shared TextFault) → Type 0
 IsReady id sum r None answer = Unit {0}
 IsReady id sum r (Some keeps.Lost) answer = Unit {0}
@@ -78,14 +78,14 @@ IsReady id sum r (Some keeps.Text) answer =
     (lines : List TextLine) × (r ≡ Some lines) × (sum ≤ MOST_SD_BYTES) × (has_long lines ≡ false)
     × IfSome answer (λ a. IsMade id (molfile_text lines) a)
 
--- the answers to the first of some texts
+-- the answers of making the first of the texts
 abbrev pub AreRead : ℕ → List (Vec ℕ Global) → List (Result Shared TextFault) → Type 0
 AreRead id texts [] = Unit {0}
 AreRead id [] (a ∷ answers) = ⊥
 AreRead id (t ∷ texts) (a ∷ answers) = IsMade id t.items a × AreRead (suc id) texts answers
 
--- a record is registered under the identifier, or is refused, by one line, where the texts up to and with it count so
--- many bytes
+-- a record is registered under the identifier, or is refused, by one line, if the texts up to and with it count `sum`
+-- bytes
 abbrev pub Registers : ℕ → ℕ → Option (List TextLine) → Calls → Lines → Type 0
 Registers id sum r calls lines = (act : Act) × (said : line.Reply) × MayRegister id sum r act
     × AnswersBy act calls said × (lines ≡ said ∷ [])

@@ -1,5 +1,5 @@
--- For private clauses alone, those of drill_run too: how a source is read on by requests, and what a turn of a session
--- does.
+-- For private clauses alone, those of drill_run too: how requests are read from a source, and the effects of a turn of
+-- a session.
 use Rattle.std.specs.Prelude.{◌≡◌, ◌≤◌, Bool, Err, ℕ, IsTrue, Ok, Option, None, Result, Some, List, [], ◌∷◌, ◌++◌, false}
 use Rattle.std.specs.Io.KnownBytes.{Appends}
 use Rattle.io_edge.specs.Faults.{Rose}
@@ -38,7 +38,7 @@ pub record IsFresh (reading : Reading) : Type 0 where
   pub untaken : reading.taken ≡ 0
   pub unended : reading.ended ≡ false
 
--- The source was read on: what it left, where it tells, how many bytes were taken, and how often it failed
+-- The source was read on: the bytes left, if they are known, the bytes that were taken, and the number of its faults
 pub record ReadsOn (before after : Option (List ℕ)) (faults faults' : ℕ) (old new : Reading) : Type 0 where
   pub got : List ℕ
   pub leaves : Leaves before got after
@@ -49,15 +49,15 @@ pub record ReadsOn (before after : Option (List ℕ)) (faults faults' : ℕ) (ol
   pub progress : done_bytes old ≤ done_bytes new
   pub count : faults ≤ faults'
 
--- However the input goes on behind what was taken (where its end was met, not at all), P holds of the lines that were
--- left and those that are left then, where the source tells what is left, and has nothing left once its end was met
+-- P holds of the lines left before and the lines left now, if the bytes left are known. It holds however the input goes
+-- on after the bytes that were taken. Once the input's end was met, no bytes are left and it does not go on
 abbrev pub ReadsLines : Reading → Reading → Option (List ℕ) → Option (List ℕ)
     → (List TextLine → List TextLine → Type 0) → Type 0
 ReadsLines old new before after P =
     (l l' got : List ℕ) → before ≡ Some l → after ≡ Some l' → l ≡ got ++ l' → (IsTrue old.ended → l ≡ [])
     → (rest : List ℕ) → (IsTrue new.ended → rest ≡ []) → P (lines_left old (got ++ rest)) (lines_left new rest)
 
--- what a call for the next line read, by its answer
+-- the line that a call for the next one read, by its answer
 abbrev pub IsNextLine : Reading → Reading → Option (List ℕ) → Option (List ℕ) → Result Line LineFault → Type 0
 IsNextLine old new before after (Ok one.Text) =
     ReadsLines old new before after (λ all left. all ≡ Whole new.text ∷ left)
@@ -73,7 +73,7 @@ abbrev pub TakesRequest : Reading → Reading → Option (List ℕ) → Option (
 TakesRequest old new before after request =
     ReadsLines old new before after (λ lines left. BeginWith lines request left)
 
--- these lines were taken, and no whole line is left behind them
+-- these lines were taken, and no whole line is left after them
 pub record TakesPart (old new : Reading) (before after : Option (List ℕ)) (Is : List TextLine → Type 0) : Type 0 where
   pub part : List TextLine
   pub is : Is part
@@ -89,7 +89,7 @@ abbrev pub TakesMolfileLines : Reading → Reading → Option (List ℕ) → Opt
 TakesMolfileLines old new before after molfile =
     ReadsLines old new before after (λ lines left. BeginWithMolfile lines molfile left)
 
--- The lines of a record were the next, of which this was taken. Where the input's end was met, no line is left
+-- The lines of a record were the next, and this part of it was taken. If the input's end was met, no line is left
 pub record TakesRecord (old new : Reading) (before after : Option (List ℕ)) (part : Option Part) (text : List ℕ)
     (ended : Bool) : Type 0 where
   pub taken : List TextLine
@@ -98,12 +98,12 @@ pub record TakesRecord (old new : Reading) (before after : Option (List ℕ)) (p
   pub is : IsRecordPart part (record_of taken) text
   pub reads : ReadsLines old new before after (λ all left. (all ≡ taken ++ left) × (IsTrue ended → left ≡ []))
 
--- the lines of so many records were the next
+-- the lines of `count` records were the next
 abbrev pub TakesRecordLines : ℕ → Reading → Reading → Option (List ℕ) → Option (List ℕ) → List TextLine → Type 0
 TakesRecordLines count old new before after records =
     ReadsLines old new before after (λ lines left. BeginWithRecords count lines records left)
 
--- What the request is, by the text of its line, that of its molfile, and its records
+-- The request, by the text of its line, that of its molfile, and its records
 abbrev pub IsNext : Next → Request → List ℕ → List ℕ → SdTexts → Type 0
 IsNext nexts.End request line text records = ⊥
 IsNext nexts.Long request line text records = IsLong request
@@ -115,7 +115,7 @@ IsNext (nexts.WithRecords count read) request line text records =
     (first part : List ℕ) × (request.line ≡ Whole first) × TakesRecords first part count
     × IsLine first (records_command count read) × AreTaken (records_in count request.more) records
 
--- the request that was read, or none where the input's end was met
+-- the request that was read; no request if no line was left
 abbrev pub Takes : Next → Reading → Reading → Option (List ℕ) → Option (List ℕ) → List ℕ → SdTexts → Type 0
 Takes nexts.End old new before after text records = TakesNone old before
 Takes next old new before after text records =
@@ -128,14 +128,14 @@ pub record Answers (size : ℕ) (Made : Calls → Type 0) (Taken : Request → T
   pub taken : Taken request
   pub did : Did Made (RequestAnswer size standing request) standing'
 
--- a request was read, and in its answer the service was worn
+-- a request was read, and the service was worn in its answer
 pub record Breaks (size : ℕ) (Made : Calls → Type 0) (IsWorn : Type 0) (Taken : Request → Type 0)
     (standing : Standing) : Type 0 where
   pub request : Request
   pub taken : Taken request
   pub worn : WornIn Made IsWorn (RequestAnswer size standing request)
 
--- What a turn does, by how the session ends with it, if it does
+-- The effects of a turn, by how the session ends with it, if it does
 abbrev pub Turns : ℕ → (Calls → Type 0) → Type 0 → (Request → Type 0) → Type 0 → Standing → Standing
     → Option (List ℕ) → Option (List ℕ) → Option EndStatus → Type 0
 Turns size Made IsWorn Taken AtEnd standing standing' put put' None =
@@ -153,7 +153,7 @@ Turns size Made IsWorn Taken AtEnd standing standing' put put' (Some NoMemory) =
 Turns size Made IsWorn Taken AtEnd standing standing' put put' (Some Worn) =
     Breaks size Made IsWorn Taken standing × Appends put put' []
 
--- What the answer to a request does and what is put of it, by how the session ends with it, if it does
+-- The effects of the answer to a request and the text that was put, by how the session ends with it, if it does
 abbrev pub Replies : ℕ → (Calls → Type 0) → Type 0 → Request → Standing → Standing → Option (List ℕ) → Option (List ℕ)
     → Option EndStatus → Type 0
 Replies size Made IsWorn request standing standing' put put' None =
@@ -166,7 +166,7 @@ Replies size Made IsWorn request standing standing' put put' (Some Worn) =
     WornIn Made IsWorn (RequestAnswer size standing request) × Appends put put' []
 Replies size Made IsWorn request standing standing' put put' (Some _) = ⊥
 
--- what was put of a reply
+-- the text that was put of a reply
 abbrev pub Puts : Option (List ℕ) → Option (List ℕ) → List ℕ → ℕ → ℕ → Option EndStatus → Type 0
 Puts put put' reply faults faults' None = Appends put put' reply
 Puts put put' reply faults faults' (Some SinkFault) = AppendsPrefix put put' reply × Rose faults faults'

@@ -23,12 +23,12 @@ use Rattle.session_run.specs.declared.listing.Walk.{Walk}
 use Rattle.session_run.specs.declared.stop.Stop.{Stop}
 use Rattle.session_run.specs.declared.stop.Stop.TheVariants as stops
 
--- some of the hits, from the first on, were written behind a text
+-- the first of the hits were written after a text
 abbrev pub ArePartlyWritten : List ℕ → List ℕ → List ℕ → Type 0
 ArePartlyWritten hits out out' = (some others : List ℕ) × (hits ≡ some ++ others)
     × (out' ≡ out ++ text_of (map line.Hit some))
 
--- all of them were, or some
+-- all hits were written, or the first of them
 abbrev pub AreWritten : Bool → List ℕ → List ℕ → List ℕ → Type 0
 AreWritten true hits out out' = out' ≡ out ++ text_of (map line.Hit hits)
 AreWritten false hits out out' = ArePartlyWritten hits out out'
@@ -56,7 +56,7 @@ pub record IsNoPage (Made : Calls → Type 0) (old new : SearchTerm) (out out' :
   pub count : shown.hits ≡ 0
   pub last : shown.last ≡ true
 
--- a fetch found no memory, or nothing was asked
+-- a fetch found no memory, or no call was made
 pub record IsLost (Made : Calls → Type 0) (old new : SearchTerm) (out out' : List ℕ) : Type 0 where
   pub calls : Calls
   pub made : Made calls
@@ -66,7 +66,7 @@ pub record IsLost (Made : Calls → Type 0) (old new : SearchTerm) (out out' : L
   pub same : new ≡ old
   pub unwritten : out' ≡ out
 
--- a step of a search, by what it gave
+-- a step of a search, by its result
 abbrev pub Pages : (Calls → Type 0) → Type 0 → SearchTerm → SearchTerm → List ℕ → List ℕ → Result Shown SearchFault
     → Type 0
 Pages Made IsWorn old new out out' (Ok shown) =
@@ -79,8 +79,8 @@ abbrev pub Counts : Walk → Walk → Result Shown SearchFault → Type 0
 Counts old new (Ok shown) = (new.tried ≡ old.tried + shown.tried) × (new.hits ≡ old.hits + shown.hits)
 Counts old new (Err fault) = (new.tried ≡ old.tried) × (new.hits ≡ old.hits)
 
--- pages from one place of a search to another, by these calls. All their hits were written, or some, and then the last
--- fetch may have found no memory
+-- pages from one place of a search to another, by these calls. All their hits were written, or the first of them; then
+-- the last fetch may have found no memory
 pub record Stretch (Made : Calls → Type 0) (old new : SearchTerm) (tried count : ℕ) (out : List ℕ) (whole : Bool)
     (out' : List ℕ) : Type 0 where
   pub pages : Calls
@@ -102,7 +102,7 @@ GoesOn Made IsWorn old new tried count out out' goes.Ended =
 GoesOn Made IsWorn old new tried count out out' goes.Short = Stretch Made old new tried count out false out'
 GoesOn Made IsWorn old new tried count out out' goes.Worn = Stretch Made old new tried count out false out' × IsWorn
 
--- which is counted
+-- as `GoesOn`, with its counts
 pub record Goes (Made : Calls → Type 0) (IsWorn : Type 0) (old new : Walk) (out out' : List ℕ) (progress : Progress)
     : Type 0 where
   pub tried : ℕ
@@ -111,7 +111,7 @@ pub record Goes (Made : Calls → Type 0) (IsWorn : Type 0) (old new : Walk) (ou
   pub tried_is : new.tried ≡ old.tried + tried
   pub hits_is : new.hits ≡ old.hits + count
 
--- by the fault of the last fetch, whether all hits were written, and from where the next page is fetched
+-- by the fault of the last fetch, whether all hits were written, and the place of the next fetch
 abbrev pub progress_by : Option SearchFault → Bool → Option ℕ → Progress
 progress_by (Some faults.Worn) whole from = goes.Worn
 progress_by (Some faults.NoMemory) whole from = goes.Short
@@ -151,7 +151,7 @@ abbrev pub CursorAnswer : ℕ → Cursor → Calls → Lines → Cursor → Type
 CursorAnswer size c calls lines c' =
     ((calls ≡ []) × (lines ≡ line.MemoryFault ∷ []) × (c' ≡ c)) ⊎ Advances size c calls lines c'
 
--- the line behind a page was written, or why it was not
+-- the line after a page was written, or why it was not
 abbrev pub EndsPage : Cursor → Result Shown SearchFault → List ℕ → List ℕ → Result (Unit {0}) Stop → Type 0
 EndsPage c (Ok shown) out out' (Ok _) = (shown.whole ≡ true) × (out' ≡ out ++ reply_line (page_end shown.last c))
 EndsPage c (Ok shown) out out' (Err stops.NoMemory) = Unit {0}
@@ -160,8 +160,8 @@ EndsPage c (Err faults.NoMemory) out out' result = Tells line.MemoryFault out ou
 EndsPage c (Err faults.Pins) out out' result = Tells line.MemoryFault out out' result
 EndsPage c (Err faults.Worn) out out' result = result ≡ Err stops.Worn
 
--- pages from the beginning on, by these calls. All their hits were written, or some, and then the last fetch may have
--- found no memory
+-- pages from the beginning on, by these calls. All their hits were written, or the first of them; then the last fetch
+-- may have found no memory
 pub record Listing (Made : Calls → Type 0) (begun now : SearchTerm) (tried count : ℕ) (out : List ℕ) (whole : Bool)
     (out' : List ℕ) : Type 0 where
   pub pages : Calls

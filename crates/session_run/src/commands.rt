@@ -33,7 +33,7 @@ pub enum Verb {
     Revise,
 }
 
-/// Which text is to be changed: by what, of which identifier, in which format.
+/// A change to a text: its verb, its identifier and its format.
 #[derive(Clone, Copy, Debug, PartialEq, Eq)]
 pub struct TextChange {
     pub verb: Verb,
@@ -41,7 +41,7 @@ pub struct TextChange {
     pub format: Format,
 }
 
-/// Commits a change to a text. The text is looked at first.
+/// Commits a change to a text. The text is read first.
 pub fn change_text<S: Service>(
     recorder: &mut Recorder,
     watches: &mut Watches,
@@ -74,7 +74,7 @@ fn change_to(verb: Verb, entry: Arc<Record>) -> Change
     }
 }
 
-/// Commits a change, and brings the watches over it. The memory for that is taken first.
+/// Commits a change, and updates the watches by it. The memory for that is taken first.
 pub fn commit<S: Service>(
     watches: &mut Watches,
     service: &mut S,
@@ -93,7 +93,7 @@ pub fn commit<S: Service>(
     say_given(commit_line(answer), out)
 }
 
-// Memory for bringing the watches over a change, and the change once more, which shares the record.
+// Takes memory for updating the watches by a change. Returns the change once more, which shares the record.
 fn prepare(watches: &mut Watches, change: &Change) -> Result<Change, AllocError>
     ensures watches { watches.new.watches ≡ watches.old.watches }
     ensures reserved { OnOk result (watches.new.reserved ≡ true) }
@@ -114,7 +114,7 @@ fn share(change: &Change) -> Result<Change, AllocError>
     }
 }
 
-// Brings the watches over a commit, where it was made.
+// Updates the watches by a commit, if it was made.
 fn note(watches: &mut Watches, answer: Result<u32, CommitFault>, change: &Change)
     requires { watches.old.reserved ≡ true }
     ensures { IsNotedBy answer (change_of change.now) (watched_all watches.old.watches)
@@ -126,7 +126,7 @@ fn note(watches: &mut Watches, answer: Result<u32, CommitFault>, change: &Change
     }
 }
 
-// Brings the watches over the commit of a version. No commit is version 0.
+// Updates the watches by the commit of a version. No commit is version 0.
 fn note_version(watches: &mut Watches, version: u32, change: &Change)
     requires { watches.old.reserved ≡ true }
     ensures { AreNoted version (change_of change.now) (watched_all watches.old.watches)
@@ -141,7 +141,7 @@ fn note_version(watches: &mut Watches, version: u32, change: &Change)
     watches.note(version, change);
 }
 
-// A law: the record of a change is one.
+// A law: the record of a change is sound.
 fn change_is_sound(change: &Change)
     ensures { IsSoundChange change.now }
 {
@@ -165,7 +165,7 @@ fn commit_line(answer: Result<u32, CommitFault>) -> Result<Reply, Stop>
     }
 }
 
-/// Drops the entries that nobody reads.
+/// Drops the entries that no version in use reads.
 pub fn prune<S: Service>(service: &mut S, out: &mut Vec<u8>) -> Result<(), Stop>
     ensures { (size : ℕ) (cursors : List Cursor) → AnsweredBy S.Service service.old service.new
         (Answers size (MayAsk event.Prune) cursors) out.old.items out.new.items cursors result }
@@ -209,7 +209,7 @@ fn compact_line(answer: Result<Compact, CompactFault>) -> Result<Reply, Stop>
     }
 }
 
-/// What an identifier is.
+/// Writes the status of an identifier.
 pub fn show<S: Service>(service: &mut S, id: u32, out: &mut Vec<u8>) -> Result<(), Stop>
     ensures { (size : ℕ) (cursors : List Cursor) → AnsweredBy S.Service service.old service.new
         (Answers size (MayAsk (event.Look id)) cursors) out.old.items out.new.items cursors result }
@@ -232,7 +232,7 @@ fn look_line(id: u32, answer: Result<Look, CallFault>) -> Result<Reply, Stop>
     }
 }
 
-/// Counts.
+/// Writes the counts of the store.
 pub fn stats<S: Service>(service: &mut S, out: &mut Vec<u8>) -> Result<(), Stop>
     ensures { (size : ℕ) (cursors : List Cursor) → AnsweredBy S.Service service.old service.new
         (Answers size (MayAsk event.Stats) cursors) out.old.items out.new.items cursors result }

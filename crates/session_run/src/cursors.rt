@@ -28,15 +28,15 @@ use std::alloc::{AllocError, Global};
 use std::thread::Threads;
 use store_core::Service;
 
-/// A cursor that was taken out of the open ones.
+/// A cursor that was removed from the open ones.
 #[derive(Drop)]
 pub struct Cursor {
     pub name: Vec<u8>,
     pub walk: Walk,
 }
 
-/// The searches of the open cursors by name, in order of opening, and how a search is done. A cursor has room for one
-/// page at a time; a search that is listed at once fetches its pages in batches.
+/// The searches of the open cursors by name, in order of opening, and the settings of a search. A cursor has room for
+/// one page at a time; a search that is listed at once fetches its pages in batches.
 #[derive(Drop)]
 pub struct Cursors {
     pub alloc: Global,
@@ -45,7 +45,7 @@ pub struct Cursors {
 }
 
 impl Cursors {
-    /// None.
+    /// No cursors.
     pub fn new(alloc: Global, settings: Settings) -> Cursors
         ensures settings { result.settings ≡ settings }
         ensures none { opened result ≡ [] }
@@ -182,7 +182,7 @@ impl Cursors {
         Ok(own)
     }
 
-    // Adds the cursor of a name, whose search began.
+    // Adds the cursor of a name with a search that began.
     fn add(&mut self, name: Vec<u8>, walk: Walk, out: &mut Vec<u8>) -> Result<(), Stop>
         requires room { 1 ≤ spare self.old.by_name }
         requires free { IsNoName (cursors_of (opened self.old)) name.items }
@@ -198,7 +198,7 @@ impl Cursors {
         }
     }
 
-    // Takes the cursor of a name out.
+    // Removes the cursor of a name. `None` if there is no such cursor.
     fn take(&mut self, name: &[u8]) -> Option<Cursor>
         ensures some { IfSome result (λ cursor. IsTaken name.now (opened self.old) cursor (opened self.new)) }
         ensures none { IfNone result (IsNoName (cursors_of (opened self.old)) name.now) }
@@ -209,7 +209,7 @@ impl Cursors {
         Some(Cursor { name, walk })
     }
 
-    // Takes the cursor out that was opened first.
+    // Removes the cursor that was opened first. `None` if there is no cursor.
     fn take_first(&mut self) -> Option<Cursor>
         ensures some { IfSome result (λ cursor. opened self.old ≡ cursor ∷ opened self.new) }
         ensures none { IfNone result (opened self.old ≡ []) }
@@ -219,7 +219,7 @@ impl Cursors {
     }
 }
 
-// The next page of a cursor, whatever its name; behind the last page its end alone.
+// The next page of a cursor, whatever its name; after the last page its end alone.
 fn next_page<R: Threads + Sync, S: Service, M: Meter>(
     walk: &mut Walk,
     matching: &Matching<'_, R, M>,
@@ -236,7 +236,7 @@ fn next_page<R: Threads + Sync, S: Service, M: Meter>(
     say_page(walk, page, out)
 }
 
-// The line behind a page, where the service answered.
+// The line after a page, or the line of a fault.
 fn say_page(walk: &Walk, page: Result<Shown, SearchFault>, out: &mut Vec<u8>) -> Result<(), Stop>
     ensures { (name : Vec ℕ Global)
         → EndsPage (cursor_of (named (name, walk.now))) page out.old.items out.new.items result }
@@ -248,7 +248,7 @@ fn say_page(walk: &Walk, page: Result<Shown, SearchFault>, out: &mut Vec<u8>) ->
     }
 }
 
-// The line behind a page's hits.
+// The line after a page's hits.
 fn end_page(walk: &Walk, shown: Shown, out: &mut Vec<u8>) -> Result<(), Stop>
     ensures ok { (name : Vec ℕ Global) → OnOk result ((shown.whole ≡ true) × (out.new.items
         ≡ out.old.items ++ reply_line (page_end shown.last (cursor_of (named (name, walk.now)))))) }

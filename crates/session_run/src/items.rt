@@ -32,7 +32,7 @@ pub fn find_data<S: Service>(
     }
 }
 
-// The data of the first item of a name in a record's text.
+// The data of the first item of a name in a record's text; `None` if there is no such item.
 fn item_of<'a>(entry: &'a Record, name: &[u8]) -> Option<&'a [u8]>
     ensures { MatchOption result (data_of entry.now.format entry.now.text name.now ≡ None)
         (λ r. data_of entry.now.format entry.now.text name.now ≡ Some r.now) }
@@ -47,7 +47,7 @@ fn item_of<'a>(entry: &'a Record, name: &[u8]) -> Option<&'a [u8]>
     }
 }
 
-// Writes the data of an item, or where there is no room for them, that memory ran out.
+// Writes the data of an item; if there is no room for them, the line says that memory ran out.
 fn say_item(id: u32, found: Option<&[u8]>, out: &mut Vec<u8>) -> Result<(), Stop>
     ensures { MatchOption found.entry (Tells (item_line id None) out.old.items out.new.items result)
         (λ text. Tells (item_line id (Some text.now)) out.old.items out.new.items result

@@ -1,8 +1,8 @@
-//! A session: the requests that a source's lines are, answered into a sink, over any service.
+//! A session: the requests in a source's lines, answered into a sink, over any service.
 //!
-//! A request is a line, and with it the lines of its molfile or of its records where it takes them. It is read whole,
-//! then answered by calls of the service, and its reply is put before more is read. What is promised is one relation
-//! between the lines, the calls that were made with their replies, and the text that was put.
+//! A request is a line, with the lines of its molfile or of its records if it takes them. It is read whole, then
+//! answered by calls of the service, and its reply is put before more is read. The contract is one relation between the
+//! lines, the calls that were made with their replies, and the text that was put.
 #![tactic(auto)]
 
 mod commands;

@@ -1,4 +1,4 @@
-//! The pages of a search, listed: their hits as reply lines, and counts of what was tried and listed.
+//! The pages of a search, listed: their hits as reply lines, and the numbers of identifiers tried and listed.
 ghost use Rattle.std.specs.Prelude.{◌≡◌, ◌++◌, IfSome, OnErr, OnOk, map};
 ghost use Rattle.shell_lang.specs.Reply as line;
 ghost use Rattle.shell_lang.specs.Reply.{reply_of, text_of};
@@ -14,16 +14,16 @@ use std::alloc::AllocError;
 use std::thread::Threads;
 use store_core::{MOST_COMMITS, Service};
 
-/// Room for the lines of a page, 14 bytes each and 256 at most, and for some lines more.
+/// Room for the lines of a page, 14 bytes each and 256 at most, and for a few lines more.
 pub const ROOM: usize = 4_096;
 
-/// Room for the lines of a batch of pages, and for some lines more.
+/// Room for the lines of a batch of pages, and for a few lines more.
 pub const BATCH_ROOM: usize = 16 * ROOM;
 
-// No store has so many identifiers.
+// No store has this number of identifiers.
 const MOST_TRIED: u64 = 4_294_967_296;
 
-/// A search, and how many identifiers its pages tried and listed.
+/// A search, and the numbers of identifiers that its pages tried and listed.
 #[derive(Drop)]
 pub struct Walk {
     pub search: Search,
@@ -31,7 +31,7 @@ pub struct Walk {
     pub hits: u64,
 }
 
-/// What a page gave: how many identifiers were tried and how many are hits, whether no page follows, and whether all
+/// The result of a page: the number of identifiers tried, the number of hits, whether no page follows, and whether all
 /// hits were written.
 #[derive(Clone, Copy, Debug, PartialEq, Eq)]
 pub struct Shown {
@@ -41,7 +41,7 @@ pub struct Shown {
     pub whole: bool,
 }
 
-/// How a search goes on behind a batch of pages.
+/// How a search goes on after a batch of pages.
 #[derive(Clone, Copy, Debug, PartialEq, Eq)]
 pub enum Progress {
     /// All hits were written, and pages follow.
@@ -54,7 +54,7 @@ pub enum Progress {
     Worn,
 }
 
-/// What a batch of pages gave: how many identifiers were tried and how many are hits, and how the search goes on.
+/// The result of a batch of pages: the number of identifiers tried, the number of hits, and how the search goes on.
 #[derive(Clone, Copy, Debug, PartialEq, Eq)]
 pub struct ShownBatch {
     pub tried: u32,
@@ -86,7 +86,7 @@ impl Walk {
         Ok(shown)
     }
 
-    /// Lists all pages, batch by batch. It answers whether all hits were written.
+    /// Lists all pages, batch by batch. Returns true if all hits were written.
     pub fn list_all<R: Threads + Sync, S: Service, M: Meter>(
         &mut self,
         matching: &Matching<'_, R, M>,
@@ -133,7 +133,7 @@ impl Walk {
         shown.progress
     }
 
-    /// The line at the search's end. `None`: a count has no line.
+    /// The line at the search's end; `None` if a count exceeds 32 bits.
     pub fn end(&self) -> Option<Reply>
         ensures { IfSome result
             (λ reply. reply_of reply ≡ line.End self.now.search.version self.now.tried self.now.hits) }
@@ -193,7 +193,7 @@ fn list_batch<R: Threads + Sync, S: Service, M: Meter>(
     }
 }
 
-// How a search goes on, by the fault of its last fetch, whether all hits were written, and from where it fetches next.
+// How a search goes on, by the fault of its last fetch, whether all hits were written, and the place of its next fetch.
 fn progress_after(fault: Option<SearchFault>, whole: bool, from: Option<u32>) -> Progress
     ensures { result ≡ progress_by fault whole from }
 {

@@ -1,4 +1,4 @@
-//! Lookups of a session: what is the same structure as that of a text, and what is most similar to it.
+//! Lookups of a session: records with the structure of a text, and those most similar to it.
 ghost use Rattle.std.specs.Prelude.{◌≡◌, ◌++◌, IfOk, List, OnErr, OnOk, map, ℕ};
 ghost use Rattle.mol_finish.specs.declared.fault.Format.TheVariants.{Smiles};
 ghost use Rattle.shell_lang.specs.Command.{IsSimilarity};
@@ -26,7 +26,7 @@ use std::alloc::AllocError;
 use store_core::{Change, Recorder, Service};
 use watch_list::Watches;
 
-/// Lists what is the same structure as that of a text.
+/// Lists the records with the structure of a text.
 pub fn same<S: Service>(
     recorder: &mut Recorder,
     cursors: &Cursors,
@@ -81,7 +81,7 @@ pub fn register_new<S: Service>(
     }
 }
 
-/// Lists what is most similar to the structure of a text.
+/// Lists the records most similar to the structure of a text.
 pub fn similar<S: Service>(
     recorder: &mut Recorder,
     cursors: &Cursors,
@@ -113,7 +113,7 @@ pub fn similar<S: Service>(
     }
 }
 
-// Writes what is the same, or that memory ran out.
+// Writes the records with the same structure, or that memory ran out.
 fn say_same(list: &HitList, out: &mut Vec<u8>) -> Result<(), Stop>
     ensures { TellsAll (same_lines list.now) out.old.items out.new.items result }
 {
@@ -138,7 +138,7 @@ fn push_same(list: &HitList, out: &mut Vec<u8>) -> Result<(), AllocError>
     reply_text(&end, out)
 }
 
-// Writes what is similar, or that memory ran out.
+// Writes the most similar records, or that memory ran out.
 fn say_similar(list: &SimilarList, out: &mut Vec<u8>) -> Result<(), Stop>
     ensures { TellsAll (similar_lines list.now) out.old.items out.new.items result }
 {
@@ -176,7 +176,7 @@ fn push_likes(likes: &[(u32, u32, u32)], out: &mut Vec<u8>) -> Result<(), AllocE
     Ok(())
 }
 
-/// A count as a line has it. No store has so many records that it has none.
+/// A length as the count of a line. It fits for each list of a store.
 pub fn count(len: usize) -> Result<u32, AllocError>
     ensures { IfOk result (λ n. n ≡ len) }
 {

@@ -1,6 +1,6 @@
-//! What the matching of a search runs on.
+//! The threads and the meter for the matching of a search.
 
-/// What threads for matching are made by, and the meter that is told of each piece of work.
+/// The runtime that makes threads for matching, and the meter that is called for each piece of work.
 #[derive(Drop)]
 pub struct Matching<'a, R, M> {
     pub rt: &'a R,

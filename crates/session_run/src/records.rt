@@ -1,5 +1,5 @@
-//! The texts of the molfiles and records that a line takes, or why one has none.
-//! No more bytes of a text are kept than a text with a structure may have, and none of a line that is too long.
+//! The texts of the molfiles and records that a line takes, or why there is no text. No more bytes of a text are kept
+//! than a text with a structure may have, and no bytes of a line that is too long.
 ghost use Rattle.std.specs.Prelude.{◌≡◌, ◌≤◌, ◌<◌, ◌++◌, ◌∷◌, [], ◌*◌, ◌+◌, length, List, min, OnErr, OnOk, Option, slice_get, Some, ℕ};
 ghost use Rattle.io_edge.specs.Lines.{TextLine, TooLong, Whole};
 ghost use Rattle.session_acts.specs.Records.{counted};
@@ -13,21 +13,21 @@ use session_acts::{MOST_COUNTED, MOST_SD_BYTES};
 use shell_lang::Refusal;
 use std::alloc::{AllocError, Global};
 
-/// What was taken of the lines of a molfile or of a record.
+/// The part that was taken of the lines of a molfile or of a record.
 #[derive(Clone, Copy, Debug, PartialEq, Eq)]
 pub enum Part {
     /// Its text.
     Text,
-    /// No text: a line of it is too long. Its lines count so many bytes.
+    /// No text: a line of it is too long. Its lines count `size` bytes, at most `MOST_COUNTED`.
     Long { size: u64 },
     /// No text: it has more bytes than a text with a structure may have.
     Big,
-    /// No text of so many bytes: memory ran out, or none is wanted.
+    /// No text, though it has only `size` bytes: memory ran out, or no text is wanted.
     Lost { size: usize },
 }
 
 impl Part {
-    /// With a line more.
+    /// The part with one more line.
     pub fn with_line(self, line: &[u8], text: &mut Vec<u8>) -> Part
         requires { (lines : List TextLine) × IsPart self lines text.old.items }
         ensures { (lines : List TextLine) → IsPart self lines text.old.items
@@ -58,7 +58,7 @@ impl Part {
         }
     }
 
-    /// With a line more that is too long, of `size` bytes.
+    /// The part with one more line that is too long, of `size` bytes.
     pub fn with_long(self, size: u64, text: &[u8]) -> Part
         requires { (lines : List TextLine) × IsPart self lines text.now }
         ensures { (lines : List TextLine) (any : List ℕ) → IsPart self lines text.now
@@ -69,7 +69,7 @@ impl Part {
         }
     }
 
-    // How many bytes its lines count.
+    // The number of bytes that its lines count.
     fn bytes(self, text: &[u8]) -> u64
         ensures { (lines : List TextLine) → IsPart self lines text.now → result ≡ counted (Some lines) }
     {
@@ -82,7 +82,7 @@ impl Part {
     }
 }
 
-// How many bytes are counted with a line more, of `size` bytes and an LF.
+// The number of bytes counted with one more line, of `size` bytes and an LF; at most `MOST_COUNTED`.
 fn with_bytes(before: u64, size: u64) -> u64
     requires { before ≤ MOST_COUNTED }
     ensures { result ≡ min (before + size + 1) MOST_COUNTED }
@@ -102,7 +102,7 @@ pub fn push_line(line: &[u8], text: &mut Vec<u8>) -> Result<(), AllocError>
     text.extend_from_slice(b"\n")
 }
 
-// How many bytes a record counts.
+// The number of bytes that a record counts.
 fn part_bytes(part: Option<Part>, text: &[u8]) -> u64
     ensures { (r : Option (List TextLine)) → IsRecordPart part r text.now → result ≡ counted r }
 {
@@ -112,7 +112,7 @@ fn part_bytes(part: Option<Part>, text: &[u8]) -> u64
     }
 }
 
-/// What is kept of a record.
+/// The part of a record that is kept.
 #[derive(Clone, Copy, Debug, PartialEq, Eq)]
 pub enum Kept {
     /// Its text.
@@ -123,7 +123,7 @@ pub enum Kept {
     Lost,
 }
 
-// What is kept of a record, where the texts up to and with it count so many bytes.
+// The part of a record that is kept, if the texts up to and with it count `total` bytes.
 fn kept_of(part: Option<Part>, total: u64) -> Kept
     ensures { (r : Option (List TextLine)) (text : List ℕ) → IsRecordPart part r text
         → IsKept total r result text }
@@ -138,7 +138,7 @@ fn kept_of(part: Option<Part>, total: u64) -> Kept
     }
 }
 
-// The text, where it is kept and there is memory for it; else an empty one.
+// A copy of the text, if it is kept and there is memory for it; else an empty text.
 fn copied(alloc: Global, kept: Kept, text: &[u8]) -> (Kept, Vec<u8>)
     ensures { (total : ℕ) (r : Option (List TextLine)) → IsKept total r kept text.now
         → IsKept total r result.0 result.1.items }
@@ -152,22 +152,22 @@ fn copied(alloc: Global, kept: Kept, text: &[u8]) -> (Kept, Vec<u8>)
     }
 }
 
-/// The records that a line takes, in order. Where memory ran out for the lists, no more records are in them.
+/// The records that a line takes, in order. If memory ran out for the lists, no more records are in them.
 #[derive(Drop)]
 pub struct SdTexts {
     pub alloc: Global,
-    /// What is kept of each record.
+    /// The kept part of each record.
     pub kept: Vec<Kept>,
-    /// The text of each record; empty where none is kept.
+    /// The text of each record; empty if no text is kept.
     pub texts: Vec<Vec<u8>>,
-    /// How many bytes the records count.
+    /// The number of bytes that the records count.
     pub total: u64,
     /// No more records are kept.
     pub full: bool,
 }
 
 impl SdTexts {
-    /// None.
+    /// No records.
     pub fn new(alloc: Global) -> SdTexts
         ensures { AreTaken [] result }
     {
@@ -180,7 +180,7 @@ impl SdTexts {
         }
     }
 
-    /// Forgets the records, and gives their memory free. Where none is wanted, no more are kept.
+    /// Forgets the records and frees their memory. If no text is `wanted`, no more records are kept.
     pub fn begin(&mut self, wanted: bool)
         ensures { AreTaken [] self.new }
     {
@@ -190,7 +190,7 @@ impl SdTexts {
         self.full = !wanted;
     }
 
-    /// What the next record begins as: without a text, where none would be kept.
+    /// The beginning of the next record: `Lost` if no text of it would be kept.
     pub fn begun(&self) -> Part
         ensures { IsPart result [] [] }
     {
@@ -201,7 +201,7 @@ impl SdTexts {
         }
     }
 
-    /// Adds a record, by what was taken of it; `None` where no line of it was left.
+    /// Adds a record, by the part that was taken of it; `None` if no line of it was left.
     pub fn add(&mut self, part: Option<Part>, text: &[u8])
         requires few { self.old.total ≤ MOST_SD_RECORDS * MOST_COUNTED }
         requires part { (r : Option (List TextLine)) × IsRecordPart part r text.now }
@@ -216,7 +216,7 @@ impl SdTexts {
         }
     }
 
-    /// What is kept of the record at a place, if it is in the lists.
+    /// The kept part of the record at a place, if it is in the lists.
     pub fn kept_at(&self, place: u32) -> Option<Kept>
         ensures { result ≡ slice_get self.now.kept.items place }
     {

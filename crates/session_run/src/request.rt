@@ -1,4 +1,4 @@
-//! Reading the next request of a source: a line, and the lines of its molfile or of its records where it takes them.
+//! Reading the next request of a source: a line, with the lines of its molfile or of its records if it takes them.
 ghost use Rattle.std.specs.Prelude.{◌≡◌, ◌≢◌, ◌<◌, ◌≤◌, ◌++◌, [], ◌∷◌, Err, IfOk, IsTrue, List, Ok, OnErr, OnOk};
 ghost use Rattle.io_edge.specs.Faults.{Rose};
 ghost use Rattle.io_edge.specs.Lines.{TextLine, done_bytes};
@@ -15,7 +15,7 @@ use io_edge::{Line, LineFault, Lines, Source};
 use sd_read::is_record_end;
 use shell_lang::{LineRefusal, MolfileChange, TakenLines, ends_molfile, taken_lines};
 
-/// What was read.
+/// The kind of request that was read.
 #[derive(Clone, Copy, Debug, PartialEq, Eq)]
 pub enum Next {
     /// The input's end was met, and no request is left.
@@ -24,12 +24,12 @@ pub enum Next {
     Long,
     /// A line that takes no lines.
     Line,
-    /// A line that takes a molfile, by what it asks for or why it is no command, and the molfile.
+    /// A line that takes a molfile: its change, or why it is no command; and the molfile.
     WithMolfile {
         read: Result<MolfileChange, LineRefusal>,
         molfile: Part,
     },
-    /// A line that takes so many records, by their first identifier or why it is no command.
+    /// A line that takes `count` records: their first identifier, or why it is no command.
     WithRecords {
         count: u32,
         first: Result<u32, LineRefusal>,
@@ -85,8 +85,8 @@ fn read_line<I: Source>(lines: &mut Lines, source: &mut I) -> Result<Line, LineF
     lines.next_line(source)
 }
 
-// Takes the lines of a molfile, up to and with the first that ends one or to the input's end. No more bytes of its text
-// are kept than a text with a structure may have.
+// Takes the lines of a molfile, up to its last line or the input's end. No more bytes of its text are kept than a text
+// with a structure may have.
 fn take_molfile<I: Source>(
     lines: &mut Lines,
     text: &mut Vec<u8>,
@@ -117,7 +117,7 @@ fn take_molfile<I: Source>(
     }
 }
 
-// Takes the lines of so many records, each up to and with its end, or all that are left.
+// Takes the lines of `count` records, each up to and with its end, or all that are left.
 fn take_records<I: Source>(
     lines: &mut Lines,
     text: &mut Vec<u8>,
@@ -152,8 +152,8 @@ fn take_records<I: Source>(
     Ok(())
 }
 
-// Takes the lines of a record, up to and with its end or to the input's end. It answers what was taken of it, if a line
-// of it was left, and whether the input's end was met.
+// Takes the lines of a record, up to and with its end or to the input's end. Returns the part that was taken of it,
+// `None` if no line was left; and true if the input's end was met.
 fn take_record<I: Source>(
     lines: &mut Lines,
     text: &mut Vec<u8>,

@@ -1,4 +1,4 @@
-//! What a request is answered.
+//! The answers to requests.
 ghost use Rattle.std.specs.Prelude.{◌≡◌, [], ℕ, IfOk, List, Ok};
 ghost use Rattle.io_edge.specs.Lines.{TextLine, Whole};
 ghost use Rattle.shell_lang.specs.Command.{IsLine, Spells, StartsMolfile, TakesLines, TakesRecords, molfile_command, records_command};
@@ -38,22 +38,22 @@ use std::thread::Threads;
 use store_core::{Change, Recorder, Service};
 use watch_list::Watches;
 
-/// What answers requests: the open cursors, the watches, and buffers that are reused for each request.
+/// The state that answers requests: the open cursors, the watches, and buffers that are reused for each request.
 #[derive(Drop)]
 pub struct Responder {
     recorder: Recorder,
     pub cursors: Cursors,
     pub watches: Watches,
-    /// The text of the molfile that the request under way has.
+    /// The text of the molfile of the request under way.
     pub molfile: Vec<u8>,
-    /// The records that the request under way has.
+    /// The records of the request under way.
     pub records: SdTexts,
-    /// The reply. It has room for a page, so that lines but those of `show` and `search` find room.
+    /// The reply. It has room for a page, so that all lines but those of `show` and `search` find room.
     pub out: Vec<u8>,
 }
 
 impl Responder {
-    /// Without cursors and watches.
+    /// A responder without cursors and watches.
     pub fn new(alloc: Global, settings: Settings) -> Result<Responder, AllocError>
         ensures settings { IfOk result (λ responder. responder.cursors.settings ≡ settings) }
         ensures none { IfOk result (λ responder. opened responder.cursors ≡ []) }
@@ -69,7 +69,7 @@ impl Responder {
         })
     }
 
-    /// Answers a request, by what was read of it and the text of its line. The reply is then in `out`.
+    /// Answers a request, by `next` and the text of its line. The reply is then in `out`.
     pub(crate) fn answer<R: Threads + Sync, S: Service, M: Meter>(
         &mut self,
         matching: &Matching<'_, R, M>,
@@ -124,7 +124,7 @@ impl Responder {
         }
     }
 
-    /// Forgets all cursors and watches, and gives no pin back.
+    /// Forgets all cursors and watches, without giving a pin back.
     pub fn forget(&mut self)
         ensures none { opened self.new.cursors ≡ [] }
         ensures unwatched { self.new.watches.watches ≡ [] }
@@ -293,7 +293,7 @@ impl Responder {
         }
     }
 
-    // Answers a line with its records, and gives their memory free.
+    // Answers a line with its records, and frees their memory.
     fn answer_records<R: Threads + Sync, S: Service>(
         &mut self,
         rt: &R,
@@ -347,7 +347,7 @@ impl Responder {
     }
 }
 
-// The line of a request with a molfile of which no text is kept, for a cause.
+// The line of a request with a molfile whose text is not kept, for a cause. A line that is no command is refused first.
 fn line_without_text(read: Result<MolfileChange, LineRefusal>, fault: TextFault) -> Reply
     ensures { IsLineWithout fault read (reply_of result) }
 {

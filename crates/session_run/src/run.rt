@@ -117,7 +117,7 @@ fn serve<R: Threads + Sync, S: Service, I: Source, O: Sink, M: Meter>(
     }
 }
 
-// Reads the next request and puts its reply. It answers how the session ends, if it does.
+// Reads the next request and puts its reply. Returns how the session ends; `None` if it goes on.
 fn turn<R: Threads + Sync, S: Service, I: Source, O: Sink, M: Meter>(
     matching: &Matching<'_, R, M>,
     service: &mut S,
@@ -161,7 +161,7 @@ fn turn<R: Threads + Sync, S: Service, I: Source, O: Sink, M: Meter>(
     }
 }
 
-// Answers a request that was read, and puts its reply. It answers how the session ends, if it does.
+// Answers a request that was read, and puts its reply. Returns how the session ends; `None` if it goes on.
 fn answer_and_put<R: Threads + Sync, S: Service, O: Sink, M: Meter>(
     matching: &Matching<'_, R, M>,
     service: &mut S,
@@ -190,7 +190,7 @@ fn answer_and_put<R: Threads + Sync, S: Service, O: Sink, M: Meter>(
     }
 }
 
-// Puts a reply. It answers how the session ends, if it does.
+// Puts a reply. Returns how the session ends; `None` if it goes on.
 fn put<O: Sink>(reply: &[u8], sink: &mut O) -> Option<EndStatus>
     ensures puts { Puts (O.written sink.old) (O.written sink.new) reply.now
         (O.faults sink.old) (O.faults sink.new) result }

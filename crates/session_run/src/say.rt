@@ -15,7 +15,7 @@ pub fn say(reply: &Reply, out: &mut Vec<u8>) -> Result<(), Stop>
     Ok(())
 }
 
-/// Writes a line, where the service gave one.
+/// Writes a line, if the service gave one.
 pub fn say_given(given: Result<Reply, Stop>, out: &mut Vec<u8>) -> Result<(), Stop>
     ensures { Writes given out.old.items out.new.items result }
 {
@@ -25,7 +25,7 @@ pub fn say_given(given: Result<Reply, Stop>, out: &mut Vec<u8>) -> Result<(), St
     }
 }
 
-/// The same of a line that may be long: where there is no room for it, that is said.
+/// As `say_given`, of a line that may be long: if there is no room for it, the line says that memory ran out.
 pub fn say_long(given: Result<Reply, Stop>, out: &mut Vec<u8>) -> Result<(), Stop>
     ensures { Writes given out.old.items out.new.items result
         ⊎ Writes (without_room given) out.old.items out.new.items result }
@@ -36,7 +36,7 @@ pub fn say_long(given: Result<Reply, Stop>, out: &mut Vec<u8>) -> Result<(), Sto
     }
 }
 
-// Writes a line, or where there is no room for it, that memory ran out.
+// Writes a line; if there is no room for it, the line says that memory ran out.
 fn say_or_fault(reply: &Reply, out: &mut Vec<u8>) -> Result<(), Stop>
     ensures { Tells (reply_of reply.now) out.old.items out.new.items result
         ⊎ Tells line.MemoryFault out.old.items out.new.items result }

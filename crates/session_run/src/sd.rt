@@ -23,14 +23,14 @@ use std::thread::Threads;
 use store_core::{Change, Record, Service};
 use watch_list::Watches;
 
-// What making a record answered.
+// The result of making a record.
 type Made = Result<Arc<Record>, TextFault>;
 
-// No reply to a record is longer.
+// The most bytes of a reply to a record.
 const LONGEST_REPLY: usize = 40;
 
-/// Registers records under identifiers from the first on, and answers each by one line. Room for all these lines is
-/// taken before the first commit: if there is none, nothing is committed.
+/// Registers records under identifiers from `first` on, and answers each by one line. Room for all these lines is taken
+/// before the first commit: if there is no room, nothing is committed.
 pub fn register_sd<R: Threads + Sync, S: Service>(
     rt: &R,
     watches: &mut Watches,
@@ -63,7 +63,7 @@ pub fn register_sd<R: Threads + Sync, S: Service>(
     Ok(())
 }
 
-// What making each record answers; of none, where memory ran out.
+// The result of making each record; an empty list if memory ran out.
 fn read_all<R: Threads + Sync>(rt: &R, first: u32, texts: &SdTexts) -> Vec<Made>
     requires ids { (place : ℕ) → place < length texts.now.texts.items → IsId (first + place) }
     ensures { AreRead first texts.now.texts.items result.items }
@@ -74,7 +74,7 @@ fn read_all<R: Threads + Sync>(rt: &R, first: u32, texts: &SdTexts) -> Vec<Made>
     }
 }
 
-// Answers a record by what is kept of it and what making it answered. Where one of these is lost, memory ran out.
+// Answers a record by its kept part and the result of making it. If one of these is missing, memory ran out.
 fn register_one<S: Service>(
     watches: &mut Watches,
     service: &mut S,
@@ -97,7 +97,7 @@ fn register_one<S: Service>(
     }
 }
 
-// Answers a record by what making it answered.
+// Answers a record by the result of making it.
 fn register_made<S: Service>(
     watches: &mut Watches,
     service: &mut S,

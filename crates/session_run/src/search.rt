@@ -21,8 +21,8 @@ use std::alloc::Global;
 use std::thread::Threads;
 use store_core::Service;
 
-/// Begins a search for a pattern, at the head, by single pages and by batches of at most this many. All workers share
-/// the records of each page of a cursor, and those of the pages of a batch.
+/// Begins a search for a pattern, at the head, by single pages and by batches of at most `most` pages. All workers
+/// share the records of each page of a cursor, and those of the pages of a batch.
 pub fn begin<S: Service>(
     alloc: Global,
     service: &mut S,
@@ -54,8 +54,8 @@ pub fn begin<S: Service>(
     }
 }
 
-/// How many pages are searched together: as many as may be with two workers or more. One worker searches each page
-/// right behind its fetch, while its records are near.
+/// The number of pages that are searched together: `MOST_PAGES` with two workers or more. One worker searches each page
+/// right after its fetch, while its records are in the cache.
 pub fn pages_together(settings: &Settings) -> u32
     ensures some { 1 ≤ result }
     ensures few { result ≤ MOST_PAGES }
@@ -63,7 +63,7 @@ pub fn pages_together(settings: &Settings) -> u32
     if settings.workers > 1 { MOST_PAGES } else { 1 }
 }
 
-/// The line where no search began.
+/// The line of a search that did not begin.
 pub fn fault_line(fault: SearchFault) -> Result<Reply, Stop>
     ensures { IsFaultLine fault result }
 {

@@ -1,6 +1,6 @@
-//! What a session is started with.
+//! The settings of a session.
 
-/// What a session is started with.
+/// The settings of a session.
 #[derive(Clone, Copy, Debug, PartialEq, Eq)]
 pub struct Settings {
     /// Threads for matching, 1 to 16.

@@ -1,7 +1,7 @@
-//! Why a session ends in the middle of an answer.
+//! The reasons why a session ends in the middle of an answer.
 use std::alloc::AllocError;
 
-/// Why an answer is not written.
+/// The reason why an answer is not written.
 #[derive(Clone, Copy, Debug, PartialEq, Eq)]
 pub enum Stop {
     /// No memory is left for the reply's text. The calls were made.

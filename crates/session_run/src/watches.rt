@@ -1,4 +1,4 @@
-//! Standing searches of a session: `watch`, `hits` and `unwatch`.
+//! Watches of a session: `watch`, `hits` and `unwatch`.
 ghost use Rattle.std.specs.Prelude.{◌≡◌, ◌<◌, ◌++◌, ◌+◌, ◌-◌, ◌^◌, IfSome, IsSome, List, MatchOption, None, OnErr, OnOk, length, min};
 ghost use Rattle.std.specs.List.Sorted.{IsStrictlyIncreasing};
 ghost use Rattle.shell_lang.specs.Reply.{text_of};
@@ -60,7 +60,7 @@ pub fn watch<S: Service>(
     }
 }
 
-// Keeps what was found, or says that memory ran out.
+// Keeps the hits that were found, or reports that memory ran out.
 fn add(
     watches: &mut Watches,
     name: &[u8],
@@ -85,7 +85,7 @@ fn add(
     }
 }
 
-/// Lists the hits of the watch of a name at the head. Where it is of another version, they are searched anew.
+/// Lists the hits of the watch of a name at the head. If they are of another version, they are searched anew.
 pub fn hits<S: Service>(
     cursors: &Cursors,
     watches: &mut Watches,
@@ -116,7 +116,7 @@ pub fn hits<S: Service>(
     }
 }
 
-// What is kept of a watch.
+// The data that are kept of a watch.
 #[derive(Clone, Copy)]
 struct View<'w> {
     pattern: &'w Pattern,
@@ -140,7 +140,7 @@ fn find_watch<'w>(watches: &'w Watches, name: &[u8]) -> Option<View<'w>>
     })
 }
 
-// Lists other hits of the watch of a name, and keeps them then; or says that memory ran out.
+// Lists other hits of the watch of a name, and then keeps them; or reports that memory ran out.
 fn fill(
     watches: &mut Watches,
     name: &[u8],
@@ -162,7 +162,7 @@ fn fill(
     Ok(())
 }
 
-// Lists hits, or says that memory ran out.
+// Lists hits, or reports that memory ran out.
 fn say_hits(version: u32, hits: &[u32], rebuilt: u32, out: &mut Vec<u8>) -> Result<(), Stop>
     ensures { TellsHits version hits.now rebuilt out.old.items out.new.items result }
 {
@@ -193,7 +193,7 @@ fn push_watched(
     reply_text(&end, out)
 }
 
-/// Watches the pattern of a name no more.
+/// Removes the watch of a name.
 pub fn unwatch(watches: &mut Watches, name: &[u8], out: &mut Vec<u8>) -> Result<(), Stop>
     ensures { Unwatches name.now (watched_all watches.old.watches) (watched_all watches.new.watches) out.old.items
         out.new.items result }

@@ -47,17 +47,17 @@ pub record IsName (name : List ℕ) : Type 0 where
   pub short : length name ≤ LONGEST_NAME
   pub bytes : All IsNameByte name
 
--- what `similar` may ask for: a fraction p / q of at most 1, and at most k hits
+-- the request of `similar`: a fraction p / q of at most 1, and at most k hits
 pub record IsSimilarity (p q k : ℕ) : Type 0 where
   pub whole : (1 ≤ q) × (q ≤ LARGEST_DENOMINATOR)
   pub part : p ≤ q
   pub few : (1 ≤ k) × (k ≤ MOST_SIMILAR)
 
--- how many records of an SD file a line may take
+-- the number of records of an SD file that a line may take
 abbrev pub IsCount : ℕ → Type 0
 IsCount count = (1 ≤ count) × (count ≤ MOST_SD_RECORDS)
 
--- so many identifiers, from the first on
+-- `count` identifiers, from the first on
 abbrev pub AreIds : ℕ → ℕ → Type 0
 AreIds first count = (1 ≤ first) × (first + count ≤ LAST_IDENTIFIER + 1)
 
@@ -92,7 +92,7 @@ Spells line Stats = line ≡ codes "stats"
 abbrev pub HasNoSpace : List ℕ → Type 0
 HasNoSpace bytes = Contains bytes 32 → ⊥
 
--- the part stands in the line where an identifier is to stand, and the number of parts is right
+-- the part is in the line's place for an identifier, and the number of parts is right
 abbrev pub HasIdentifierPart : List ℕ → List ℕ → Type 0
 HasIdentifierPart line part =
     HasNoSpace part ×
@@ -103,17 +103,17 @@ HasIdentifierPart line part =
     ⊎ ((line ≡ codes "register-mol" ++ 32 ∷ part) ⊎ ((line ≡ codes "revise-mol" ++ 32 ∷ part)
     ⊎ ((line ≡ codes "withdraw" ++ 32 ∷ part) ⊎ (line ≡ codes "show" ++ 32 ∷ part))))))))
 
--- the line takes so many records of the lines after it, and the part stands where the first identifier is to stand
+-- the line takes `count` records of the lines after it, and the part is in the place for the first identifier
 abbrev pub TakesRecords : List ℕ → List ℕ → ℕ → Type 0
 TakesRecords line part count =
     HasNoSpace part × IsCount count × (line ≡ codes "register-sd" ++ 32 ∷ (part ++ 32 ∷ decimal count))
 
--- the part is not the first of so many identifiers
+-- the part is not the first of `count` identifiers
 abbrev pub IsNoFirst : List ℕ → ℕ → Type 0
 IsNoFirst part count = (id : ℕ) → AreIds id count → part ≢ decimal id
 
--- What a line is: a command; or `Id`, where the part for an identifier is none, or no so many identifiers begin with
--- it; or `Syntax`, where it is neither a command nor has such a part.
+-- The reading of a line: a command, or `Id`, or `Syntax`. `Id`: the part for an identifier is invalid or too great for
+-- the number of records. `Syntax`: the line is neither a command nor has such a part.
 abbrev pub IsLine : List ℕ → Result Command LineRefusal → Type 0
 IsLine line (Ok command) = Spells line command
 IsLine line (Err refusals.Id) =
@@ -131,7 +131,7 @@ StartsWith line word = (line ≡ word) ⊎ ((rest : List ℕ) × (line ≡ word 
 abbrev pub StartsMolfile : List ℕ → Type 0
 StartsMolfile line = StartsWith line (codes "register-mol") ⊎ StartsWith line (codes "revise-mol")
 
--- the lines of some records belong to the line
+-- the lines of a number of records belong to the line
 abbrev pub StartsRecords : List ℕ → Type 0
 StartsRecords line = (part : List ℕ) × (count : ℕ) × TakesRecords line part count
 
@@ -143,13 +143,13 @@ TakesLines line = StartsMolfile line ⊎ StartsRecords line
 abbrev pub EndsMolfile : List ℕ → Type 0
 EndsMolfile line = (rest : List ℕ) × (line ≡ codes "M  END" ++ rest)
 
--- what a line that starts a molfile is read as, by its change
+-- the reading of a line that starts a molfile, by its change
 abbrev pub molfile_command : Result MolfileChange LineRefusal → Result Command LineRefusal
 molfile_command (Ok (changes.Register id)) = Ok (RegisterMol id)
 molfile_command (Ok (changes.Revise id)) = Ok (ReviseMol id)
 molfile_command (Err refusal) = Err refusal
 
--- what a line that starts so many records is read as, by the first identifier
+-- the reading of a line that starts `count` records, by the first identifier
 abbrev pub records_command : ℕ → Result ℕ LineRefusal → Result Command LineRefusal
 records_command count (Ok first) = Ok (RegisterSd first count)
 records_command count (Err refusal) = Err refusal

@@ -1,4 +1,4 @@
--- A command as it is read, without where its parts lie, and which lines a line takes.
+-- A command as it is read, without the places of its parts, and the lines that a line takes.
 use Rattle.std.specs.Prelude.{ℕ, List, Result, Ok, Err}
 use Rattle.shell_lang.specs.declared.command.LineRefusal.{LineRefusal}
 use Rattle.shell_lang.specs.declared.command.Command as read

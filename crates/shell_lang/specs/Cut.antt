@@ -1,4 +1,4 @@
--- For private clauses alone: a line by its first word and what follows it.
+-- For private clauses alone: a line by its first word and its rest.
 use Rattle.std.specs.Prelude.{◌≡◌, ◌⊎◌, ℕ, Result, Ok, Err, List, ◌∷◌, ◌++◌}
 use Rattle.std.specs.Fmt.{decimal}
 use Rattle.shell_lang.specs.declared.word.Word.{Word}
@@ -32,7 +32,7 @@ Follows words.Hits rest (Hits name) = IsName name × (rest ≡ name)
 Follows words.Unwatch rest (Unwatch name) = IsName name × (rest ≡ name)
 Follows word rest command = ⊥
 
--- the rest is a part for an identifier, and a text behind it where the word has one
+-- the rest is a part for an identifier, and then a text if the word has one
 abbrev pub IdentifierPart : Word → List ℕ → List ℕ → Type 0
 IdentifierPart words.Register rest part = HasNoSpace part × (text : List ℕ) × (rest ≡ part ++ 32 ∷ text)
 IdentifierPart words.RegisterNew rest part = HasNoSpace part × (text : List ℕ) × (rest ≡ part ++ 32 ∷ text)
@@ -44,7 +44,7 @@ IdentifierPart words.Show rest part = HasNoSpace part × (rest ≡ part)
 IdentifierPart words.Data rest part = HasNoSpace part × (name : List ℕ) × (rest ≡ part ++ 32 ∷ name)
 IdentifierPart word rest part = ⊥
 
--- the rest is a part for the first of so many identifiers, and their number
+-- the rest is a part for the first of `count` identifiers, and `count`
 abbrev pub FirstPart : Word → List ℕ → List ℕ → ℕ → Type 0
 FirstPart words.RegisterSd rest part count = HasNoSpace part × IsCount count × (rest ≡ part ++ 32 ∷ decimal count)
 FirstPart word rest part count = ⊥

@@ -20,7 +20,7 @@ use Rattle.shell_lang.specs.declared.reply.Refusal.TheVariants as refusals
 use Rattle.shell_lang.specs.declared.reply.Reply as written
 use Rattle.shell_lang.specs.declared.reply.Reply.TheVariants as replies
 
--- A reply, without where a record lies in memory
+-- A reply, without the place of a record in memory
 pub data Reply : Type 0 where
   Accepted : (version : ℕ) → Reply
   Shown : (id version : ℕ) (format : Format) (text : List ℕ) → Reply
@@ -97,7 +97,7 @@ refusal_words refusals.Full = codes "refused full"
 refusal_words refusals.Pins = codes "refused pins"
 refusal_words refusals.Generation = codes "refused generation"
 
--- a text whose every line is ended by LF: one is added where the last line has none
+-- a text whose every line is ended by LF: one is added if the last line has none
 abbrev pub ended : List ℕ → List ℕ
 ended [] = []
 ended (b ∷ []) = if b == 10 then 10 ∷ [] else b ∷ 10 ∷ []
@@ -106,12 +106,12 @@ ended (b ∷ c ∷ bs) = b ∷ ended (c ∷ bs)
 abbrev pub line_count : List ℕ → ℕ
 line_count text = count_by (λ b. b == 10) (ended text)
 
--- a SMILES, or how many lines of a molfile follow
+-- a SMILES, or the number of lines of a molfile that follow
 abbrev pub text_part : Format → List ℕ → List ℕ
 text_part formats.Smiles text = codes " smiles " ++ text
 text_part formats.Molfile text = codes " molfile " ++ decimal (line_count text)
 
--- the lines of a molfile; of a SMILES none
+-- the lines of a molfile; no lines of a SMILES
 abbrev pub molfile_lines : Format → List ℕ → List ℕ
 molfile_lines formats.Smiles text = []
 molfile_lines formats.Molfile text = ended text
@@ -125,7 +125,7 @@ abbrev pub record_words : ℕ → ℕ → Format → List ℕ → List ℕ
 record_words id version format text =
     codes "record " ++ (decimal id ++ (codes " version " ++ (decimal version ++ text_part format text)))
 
--- how many lines of data follow
+-- the number of lines of data that follow
 abbrev pub data_words : ℕ → List ℕ → List ℕ
 data_words id text = codes "data " ++ (decimal id ++ (codes " " ++ decimal (line_count text)))
 

@@ -1,4 +1,4 @@
--- For private clauses alone: what was written behind what stood there.
+-- For private clauses alone: bytes that were written after the old ones.
 use Rattle.std.specs.Prelude.{◌≡◌, ℕ, List, ◌++◌}
 
 abbrev pub Extends : List ℕ → List ℕ → Type 0

@@ -1,4 +1,4 @@
-//! Reading a line of a script: which command it spells, or why it spells none.
+//! Reads a line of a script: the command that it spells, or why it spells no command.
 ghost use Rattle.std.specs.Prelude.{◌≡◌, ◌≢◌, ◌≤◌, ◌∷◌, ◌++◌, ℕ, List, All, Contains, codes, decimal, IfSome, IfNone, IfOk, IfErr, IsErrOf, IsTrue, Result, ◌↔◌};
 ghost use Rattle.store_machine.specs.History.{IsId};
 ghost use Rattle.shell_lang.specs.Command as spec;
@@ -36,7 +36,7 @@ pub enum Command<'a> {
         id: u32,
         text: &'a [u8],
     },
-    /// `register-new ID SMILES`: where no live record has the same structure.
+    /// `register-new ID SMILES`: only if no live record has the same structure.
     RegisterNew {
         id: u32,
         text: &'a [u8],
@@ -81,8 +81,8 @@ pub enum Command<'a> {
     Same {
         text: &'a [u8],
     },
-    /// `similar P Q K SMILES`, which asks for structures that are alike by `p / q` at least, and for the `k` best of
-    /// them. `q` is 1 to 1000, `p` 0 to `q`, and `k` 1 to 256.
+    /// `similar P Q K SMILES`: the `k` best of the structures that are alike by `p / q` at least. `q` is 1 to 1000, `p`
+    /// 0 to `q`, and `k` 1 to 256.
     Similar {
         p: u32,
         q: u32,
@@ -135,7 +135,7 @@ pub enum MolfileChange {
 pub enum TakenLines {
     /// Those of a molfile, by the change that is asked for, or why the line is no command.
     Molfile(Result<MolfileChange, LineRefusal>),
-    /// Those of so many records of an SD file, by the first identifier, or why the line is no command.
+    /// Those of `count` records of an SD file, by the first identifier, or why the line is no command.
     Records {
         count: u32,
         first: Result<u32, LineRefusal>,
@@ -145,15 +145,15 @@ pub enum TakenLines {
 /// Why a line spells no command.
 #[derive(Clone, Copy, Debug, PartialEq, Eq)]
 pub enum LineRefusal {
-    /// It is no line of the language: an unknown word, another number of parts, a name that is none, or a number of
-    /// `similar` or of records that is none or out of range.
+    /// An unknown word, a wrong number of parts, an invalid name, or a malformed or out-of-range number of `similar` or
+    /// of records.
     Syntax,
-    /// The part where an identifier stands is none, or the last of so many identifiers would be out of range.
+    /// The part for an identifier is invalid, or the last identifier of the records would be out of range.
     Id,
 }
 
 /// Reads a line, without its end. Parts are separated by exactly one space; a SMILES and a SMARTS are the rest of their
-/// line and may be any bytes, none included.
+/// line and may be any bytes, even none.
 pub fn read_command(line: &[u8]) -> Result<Command<'_>, LineRefusal>
     ensures { IsLine line.now (reading_of result) }
 {
@@ -166,9 +166,9 @@ pub fn read_command(line: &[u8]) -> Result<Command<'_>, LineRefusal>
     with_rest(word, rest)
 }
 
-/// Which lines a line takes after it. A line whose first part is `register-mol` or `revise-mol` takes those of a
-/// molfile, whatever it is read as. A line of three parts, `register-sd`, any bytes and a number of records, takes
-/// those of so many records. `None` of any other line.
+/// The lines that a line takes after it. A line whose first part is `register-mol` or `revise-mol` takes those of a
+/// molfile, even if it is refused. A line of three parts, `register-sd`, any bytes and a number of records, takes those
+/// of that many records. `None` of any other line.
 pub fn taken_lines(line: &[u8]) -> Option<TakenLines>
     ensures some { IfSome result (λ taken. Takes taken line.now) }
     ensures none { IfNone result (¬ TakesLines line.now) }
@@ -188,7 +188,7 @@ pub fn taken_lines(line: &[u8]) -> Option<TakenLines>
     None
 }
 
-/// Whether a line ends a molfile: it begins `M  END`.
+/// True if a line ends a molfile: it begins `M  END`.
 pub fn ends_molfile(line: &[u8]) -> bool
     ensures { IsTrue result ↔ EndsMolfile line.now }
 {
@@ -308,7 +308,7 @@ fn identifier_alone(rest: &[u8]) -> Result<u32, LineRefusal>
     identifier(rest).ok_or(LineRefusal::Id)
 }
 
-// What follows `similar`.
+// The rest of a `similar` line.
 fn similar(rest: &[u8]) -> Option<Command<'_>>
     ensures some { IfSome result (λ command. Follows words.Similar rest.now (command_of command)) }
     ensures none { IfNone result ((command : spec.Command) → ¬ Follows words.Similar rest.now command) }
@@ -323,7 +323,7 @@ fn similar(rest: &[u8]) -> Option<Command<'_>>
     }
 }
 
-// A number of at most `most`, a space, and what follows.
+// A number of at most `most`, a space, and the rest.
 fn number_and_rest(bytes: &[u8], most: u32) -> Option<(u32, &[u8])>
     ensures some { IfSome result (λ r. (r.0 ≤ most) × (bytes.now ≡ decimal r.0 ++ 32 ∷ r.1.now)) }
     ensures none { IfNone result ((n : ℕ) (rest : List ℕ)
@@ -334,7 +334,7 @@ fn number_and_rest(bytes: &[u8], most: u32) -> Option<(u32, &[u8])>
     Some((number as u32, rest))
 }
 
-// A line without a space. Where it is the word of a molfile's line, the identifier is missing.
+// A line without a space. If it is the word of a molfile's line, the identifier is missing.
 fn taken_alone(line: &[u8]) -> Option<TakenLines>
     requires { HasNoSpace line.now }
     ensures some { IfSome result (λ taken. Takes taken line.now) }
@@ -346,7 +346,7 @@ fn taken_alone(line: &[u8]) -> Option<TakenLines>
     None
 }
 
-// The records that a line takes, by what follows `register-sd`.
+// The records that a line takes, by the rest after `register-sd`.
 fn taken_records(rest: &[u8]) -> Option<TakenLines>
     ensures some { IfSome result (λ taken. Takes taken (codes "register-sd" ++ 32 ∷ rest.now)) }
     ensures none { IfNone result ((part : List ℕ) (count : ℕ)
@@ -357,7 +357,7 @@ fn taken_records(rest: &[u8]) -> Option<TakenLines>
     Some(TakenLines::Records { count, first })
 }
 
-// What follows `register-sd`: the first identifier and the number of records.
+// The rest of a `register-sd` line: the first identifier and the number of records.
 fn first_and_count(rest: &[u8]) -> Result<(u32, u32), LineRefusal>
     ensures ok { IfOk result (λ r. IsCount r.1 × AreIds r.0 r.1
         × (rest.now ≡ decimal r.0 ++ 32 ∷ decimal r.1)) }
@@ -384,7 +384,7 @@ fn part_and_count(rest: &[u8]) -> Option<(&[u8], u32)>
     }
 }
 
-// The first of so many identifiers, where the bytes are one.
+// The first of `count` identifiers, if the bytes are one.
 fn first_of(bytes: &[u8], count: u32) -> Option<u32>
     requires { IsCount count }
     ensures some { IfSome result (λ id. (bytes.now ≡ decimal id) × AreIds id count) }
@@ -399,7 +399,7 @@ fn first_of(bytes: &[u8], count: u32) -> Option<u32>
     }
 }
 
-// What follows `register-mol`.
+// The rest of a `register-mol` line.
 fn registration(rest: &[u8]) -> Result<MolfileChange, LineRefusal>
     ensures { IsRest words.RegisterMol rest.now (molfile_command result) }
 {
@@ -407,7 +407,7 @@ fn registration(rest: &[u8]) -> Result<MolfileChange, LineRefusal>
     Ok(MolfileChange::Register { id })
 }
 
-// What follows `revise-mol`.
+// The rest of a `revise-mol` line.
 fn revision(rest: &[u8]) -> Result<MolfileChange, LineRefusal>
     ensures { IsRest words.ReviseMol rest.now (molfile_command result) }
 {
@@ -472,7 +472,7 @@ fn is_name_byte(byte: u8) -> bool
     byte.is_ascii_alphanumeric() || byte == b'_'
 }
 
-/// The bytes before the first space, and those after it. `None` where there is no space.
+/// The bytes before the first space, and those after it. `None` if there is no space.
 pub fn split_at_space(bytes: &[u8]) -> Option<(&[u8], &[u8])>
     ensures parts { IfSome result (λ parts. bytes.now ≡ parts.0.now ++ 32 ∷ parts.1.now) }
     ensures first { IfSome result (λ parts. HasNoSpace parts.0.now) }

@@ -35,22 +35,22 @@ pub enum Reply {
     Hit {
         id: u32,
     },
-    /// The end of a search: the version that it saw, how many identifiers its prints let through, and how many it
-    /// listed.
+    /// The end of a search: the version that it saw, the number of identifiers that its prints let through, and the
+    /// number that it listed.
     End {
         version: u32,
         tried: u32,
         hits: u32,
     },
-    /// An identifier that a search for similar structures lists, and how many bits are set in both prints, and how many
-    /// in at least one.
+    /// An identifier that a search for similar structures lists, with the numbers of bits that are set in both prints,
+    /// and in at least one.
     Like {
         id: u32,
         c: u32,
         u: u32,
     },
-    /// The end of a search for similar structures: the version that it saw, how many identifiers are live there, and
-    /// how many it listed.
+    /// The end of a search for similar structures: the version that it saw, the number of live identifiers there, and
+    /// the number that it listed.
     Scored {
         version: u32,
         scored: u32,
@@ -64,13 +64,13 @@ pub enum Reply {
     More,
     /// The cursor is closed.
     Closed,
-    /// A pattern is watched from now on: the version that was searched, and how many identifiers match there.
+    /// A pattern is watched from now on: the version that was searched, and the number of identifiers that match there.
     Watching {
         version: u32,
         hits: u32,
     },
-    /// The end of the list of a watch: its version, how many identifiers were listed, and how often a listing had to
-    /// search anew.
+    /// The end of the list of a watch: its version, the number of listed identifiers, and the number of listings that
+    /// searched anew.
     EndWatched {
         version: u32,
         hits: u32,
@@ -78,11 +78,11 @@ pub enum Reply {
     },
     /// The pattern is no longer watched.
     Unwatched,
-    /// How many entries a prune dropped.
+    /// The number of entries that a prune dropped.
     Pruned {
         count: u32,
     },
-    /// A step of a compaction, and how many items are left.
+    /// A step of a compaction, and the number of items that are left.
     Compacting {
         left: u32,
     },
@@ -99,8 +99,8 @@ pub enum Reply {
     DiskFault {
         doubt: bool,
     },
-    /// Memory ran out, and the command did nothing; a search may have listed some hits, and a step of a compaction may
-    /// have written some items.
+    /// Memory ran out, and the command did nothing. But a search may have listed some hits, and a step of a compaction
+    /// may have written some items.
     MemoryFault,
 }
 
@@ -124,7 +124,7 @@ pub enum Refusal {
     Cursor,
     /// No watch has the name, or one has it already.
     Watch,
-    /// As many patterns are watched as there may be, 16.
+    /// The limit of 16 watched patterns is reached.
     Watches,
     /// A live record has the structure already, and `id` is the least of them.
     Same { id: u32 },
@@ -136,9 +136,9 @@ pub enum Refusal {
     Withdrawn,
     /// The record is no molfile, or has no data item of the name.
     Data,
-    /// The store has as many commits as it may have.
+    /// The store has reached its limit of commits.
     Full,
-    /// As many pins are held as there may be, 64.
+    /// The limit of 64 held pins is reached.
     Pins,
     /// No generation is left, so that no compaction may begin.
     Generation,
@@ -157,8 +157,8 @@ pub fn reply_text(reply: &Reply, out: &mut Vec<u8>) -> Result<(), AllocError>
     result
 }
 
-/// Appends the lines of a data item: how many lines its data have, and these, each with its LF. An `Err` changes
-/// nothing.
+/// Appends the lines of a data item: the number of lines of its data, and these, each with its LF. They lie in the
+/// record's text, so no `Reply` owns a copy of them. An `Err` changes nothing.
 pub fn data_text(id: u32, text: &[u8], out: &mut Vec<u8>) -> Result<(), AllocError>
     ensures ok { OnOk result (out.new.items ≡ out.old.items ++ reply_line (Data id text.now)) }
     ensures err { OnErr result (out.new.items ≡ out.old.items) }
@@ -331,7 +331,7 @@ fn push_record(entry: &Record, version: u32, out: &mut Vec<u8>) -> Result<(), Al
     push_text(entry.format(), entry.text(), out)
 }
 
-// Appends a SMILES, or how many lines a molfile has.
+// Appends a SMILES, or the number of lines of a molfile.
 fn push_text(format: Format, text: &[u8], out: &mut Vec<u8>) -> Result<(), AllocError>
     ensures ok { OnOk result (out.new.items ≡ out.old.items ++ text_part format text.now) }
     ensures err { OnErr result (Extends out.old.items out.new.items) }
@@ -360,7 +360,7 @@ fn push_molfile(entry: &Record, out: &mut Vec<u8>) -> Result<(), AllocError>
     }
 }
 
-// Appends a text, and an LF where its last line has none.
+// Appends a text, and an LF if its last line has none.
 fn push_ended(text: &[u8], out: &mut Vec<u8>) -> Result<(), AllocError>
     ensures ok { OnOk result (out.new.items ≡ out.old.items ++ ended text.now) }
     ensures err { OnErr result (Extends out.old.items out.new.items) }
@@ -372,7 +372,7 @@ fn push_ended(text: &[u8], out: &mut Vec<u8>) -> Result<(), AllocError>
     Ok(())
 }
 
-// How many lines a text has.
+// The number of lines of a text.
 fn lines_of(text: &[u8]) -> u64
     ensures { result ≡ line_count text.now }
 {
@@ -380,7 +380,7 @@ fn lines_of(text: &[u8]) -> u64
     if is_open(text) { whole + 1 } else { whole }
 }
 
-// How many LF a text has.
+// The number of LF of a text.
 fn line_ends(text: &[u8]) -> usize
     ensures count { result ≡ count_by (λ b. b == 10) text.now }
     ensures within { result ≤ length text.now }
@@ -388,7 +388,7 @@ fn line_ends(text: &[u8]) -> usize
     text.iter().filter(|byte| **byte == b'\n').count()
 }
 
-// Whether the last line of a text has no LF.
+// True if the last line of a text has no LF.
 fn is_open(text: &[u8]) -> bool
     ensures { ended text.now ≡ text.now ++ (if result then 10 ∷ [] else []) }
 {

@@ -62,7 +62,7 @@ impl Word {
         None
     }
 
-    /// Whether the bytes spell the word.
+    /// True if the bytes spell the word.
     pub(crate) fn is_spelled(self, bytes: &[u8]) -> bool
         ensures same { OnTrue result (word_text self ≡ bytes.now) }
         ensures other { OnFalse result (word_text self ≢ bytes.now) }
@@ -96,7 +96,7 @@ impl Word {
     }
 }
 
-/// Whether the bytes are the same.
+/// True if the bytes are the same.
 pub fn are_same(bytes: &[u8], others: &[u8]) -> bool
     ensures same { OnTrue result (bytes.now ≡ others.now) }
     ensures other { OnFalse result (bytes.now ≢ others.now) }

@@ -1,4 +1,4 @@
-//! The best of what is offered.
+//! The best of the offers.
 ghost use Rattle.std.specs.Prelude.{◌≡◌, ◌*◌, ◌-◌, ◌≤◌, nat_le, true, false, length, slice_get, Some};
 ghost use Rattle.std.specs.List.Sorted.{IsPartitionedBy, IsPartitionPoint};
 ghost use Rattle.similar_find.specs.Board.{Offer, is_better};
@@ -9,12 +9,12 @@ use std::marker::Model;
 /// The most hits that may be asked for.
 pub const MOST_HITS: u32 = 256;
 
-// An identifier, how many bits are in both prints, and how many in at least one.
+// An identifier, the number of bits in both prints, and the number in at least one.
 type Offer = (u32, u32, u32);
 
-/// The best of what is offered: those whose fraction of bits in both prints over bits in at least one is at least
-/// `p / q`, the greater fraction first, and of equal ones the smaller identifier; at most `k` of them. Contracts see
-/// what is asked, and the hits.
+/// The best of the offers: those whose fraction of bits in both prints over bits in at least one is at least `p / q`.
+/// The greater fraction is first, and of equal ones the smaller identifier; at most `k` are kept. Contracts see the
+/// request, and the hits.
 #[derive(Debug, Drop)]
 pub struct Best {
     p: u32,
@@ -73,8 +73,8 @@ impl Best {
         let _ = self.hits.insert(place, offer);
     }
 
-    /// Whether an offer under this identifier, of a fraction that is at most `c / u`, may change the hits. Where it may
-    /// not, as where each of `k` hits is better, the hits are the best with it and without it. Takes no memory.
+    /// False only if an offer under this identifier, of a fraction that is at most `c / u`, cannot change the hits. So
+    /// it is if each of `k` hits is better. Then the hits are the best with it and without it. Takes no memory.
     pub fn may_take(&self, id: u32, c: u32, u: u32) -> bool
         requires { 1 ≤ u }
         ensures same { result ≡ false → (offered : List Offer) (d v : ℕ) → d * u ≤ c * v
@@ -96,14 +96,14 @@ impl Best {
     }
 }
 
-// Whether the fraction is at least that which is asked.
+// True if the fraction is at least the requested one.
 fn passes(p: u32, q: u32, offer: &Offer) -> bool
     ensures { result ≡ nat_le (p * offer.now.2) (offer.now.1 * q) }
 {
     u64::from(p) * u64::from(offer.2) <= u64::from(offer.1) * u64::from(q)
 }
 
-// Whether the first is better than the second: by the fraction, and of equal ones by the smaller identifier.
+// True if the first is better than the second: by the fraction, and of equal ones by the smaller identifier.
 fn is_better(first: &Offer, second: &Offer) -> bool
     ensures { result ≡ is_better first.now second.now }
 {
@@ -112,7 +112,7 @@ fn is_better(first: &Offer, second: &Offer) -> bool
     other < one || (one == other && first.0 < second.0)
 }
 
-// Whether the offer is better than the last hit, or there is none.
+// True if the offer is better than the last hit, or there is no hit.
 fn is_before_last(hits: &[Offer], offer: &Offer) -> bool
     ensures last { result ≡ false → (last : Offer)
         × (slice_get hits.now (length hits.now - 1) ≡ Some last)
@@ -124,7 +124,7 @@ fn is_before_last(hits: &[Offer], offer: &Offer) -> bool
     }
 }
 
-// How many of the hits are better than the offer, where the better ones stand first.
+// The number of hits that are better than the offer, if the better ones are first.
 fn place_of(hits: &[Offer], offer: Offer) -> usize
     ensures bound { result ≤ length hits.now }
     ensures place { IsPartitionedBy (λ hit. is_better hit offer) hits.now

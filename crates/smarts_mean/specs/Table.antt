@@ -1,4 +1,4 @@
--- At which atoms the recursive parts of a pattern hold.
+-- The atoms at which the recursive parts of a pattern hold.
 use Rattle.std.specs.Prelude.{◌≡◌, ℕ, ◌+◌, ◌*◌, ◌/◌, ◌%◌, Bool, true, ◌==◌, List, slice_index}
 use Rattle.std.specs.Int.{bit_at}
 
@@ -6,7 +6,7 @@ use Rattle.std.specs.Int.{bit_at}
 pub record Table : Type 0 where
   pub words : List ℕ
 
--- whether the part holds at the atom, by the table
+-- true if the part holds at the atom, by the table
 unfoldable pub holds_at : Table → ℕ → ℕ → Bool
 holds_at table part atom = bit_at (slice_index table.words (16 * part + atom / 64)) (atom % 64) == 1
 

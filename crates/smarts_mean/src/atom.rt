@@ -1,4 +1,4 @@
-//! Whether an atom expression is true at an atom.
+//! The truth of an atom expression at an atom.
 ghost use Rattle.std.specs.Prelude.{◌≡◌, ◌<◌, ◌↔◌, Some, length, slice_get, IsTrue};
 ghost use Rattle.smarts_parse.specs.Pattern.{Prim, term_of};
 ghost use Rattle.smarts_parse.specs.Sound.{NamesBelow, PrimNamesBelow};
@@ -10,8 +10,8 @@ use crate::table::{MOST_PARTS, RecTable};
 use chem_core::{Atom, MOST_ATOMS, Mol};
 use smarts_parse::{AtomPrim, Expr};
 
-/// Whether the expression is true at the atom at that place, where the recursive parts hold as the table says. Takes
-/// no memory.
+/// True if the expression is true at the atom at that place, if the recursive parts hold as in the table. Takes no
+/// memory.
 pub fn atom_true(expr: &Expr<AtomPrim>, mol: &Mol, atom: u16, table: &RecTable) -> bool
     requires in_range { atom < length mol.now.atoms }
     requires named { NamesBelow MOST_PARTS (term_of expr.now) }
@@ -29,7 +29,7 @@ pub fn atom_true(expr: &Expr<AtomPrim>, mol: &Mol, atom: u16, table: &RecTable) 
     }
 }
 
-/// The same of a primitive.
+/// As `atom_true`, for a primitive.
 pub fn prim_true(prim: AtomPrim, mol: &Mol, atom: u16, table: &RecTable) -> bool
     requires in_range { atom < length mol.now.atoms }
     requires named { PrimNamesBelow MOST_PARTS prim }
@@ -38,7 +38,7 @@ pub fn prim_true(prim: AtomPrim, mol: &Mol, atom: u16, table: &RecTable) -> bool
     is_true_at(prim, mol, atom, mol.atoms()[usize::from(atom)], table)
 }
 
-// Whether the primitive is true at the atom x, which stands at that place.
+// True if the primitive is true at the atom x, which is at that place.
 fn is_true_at(prim: AtomPrim, mol: &Mol, place: u16, x: Atom, table: &RecTable) -> bool
     requires in_range { place < length mol.now.atoms }
     requires few { place < MOST_ATOMS }

@@ -1,4 +1,4 @@
-//! Whether a bond expression is true at a bond.
+//! The truth of a bond expression at a bond.
 ghost use Rattle.std.specs.Prelude.{◌<◌, ◌↔◌, length, IsTrue};
 ghost use Rattle.smarts_parse.specs.Pattern.{Prim, term_of};
 ghost use Rattle.smarts_parse.specs.Truth.{BondPrimTrue, BondTrue};
@@ -6,9 +6,9 @@ ghost use Rattle.smarts_parse.specs.Truth.{BondPrimTrue, BondTrue};
 use chem_core::{Bond, BondKind, Mol};
 use smarts_parse::{BondPrim, Expr};
 
-/// Whether the expression is true at the bond at that place. Takes no memory.
+/// True if the expression is true at the bond at that place. Takes no memory.
 ///
-/// Most expressions are a primitive, which is asked without a call.
+/// Most expressions are a primitive, which is tested without a call.
 #[inline(always)]
 pub fn bond_true(expr: &Expr<BondPrim>, mol: &Mol, bond: u16) -> bool
     requires { bond < length mol.now.bonds }
@@ -20,7 +20,7 @@ pub fn bond_true(expr: &Expr<BondPrim>, mol: &Mol, bond: u16) -> bool
     }
 }
 
-// The same of any expression: its parts are asked by calls.
+// As `bond_true`, for any expression: its parts are tested by calls.
 fn expr_true(expr: &Expr<BondPrim>, mol: &Mol, bond: u16) -> bool
     requires { bond < length mol.now.bonds }
     ensures { IsTrue result ↔ BondTrue (term_of expr.now) mol.now bond }
@@ -33,7 +33,7 @@ fn expr_true(expr: &Expr<BondPrim>, mol: &Mol, bond: u16) -> bool
     }
 }
 
-// The same of a primitive.
+// As `bond_true`, for a primitive.
 #[inline(always)]
 fn prim_true(prim: BondPrim, mol: &Mol, bond: u16) -> bool
     requires { bond < length mol.now.bonds }
@@ -42,7 +42,7 @@ fn prim_true(prim: BondPrim, mol: &Mol, bond: u16) -> bool
     is_true_at(prim, mol, bond, mol.bonds()[usize::from(bond)])
 }
 
-// Whether the primitive is true at the bond x, which stands at that place.
+// True if the primitive is true at the bond x, which is at that place.
 #[inline(always)]
 fn is_true_at(prim: BondPrim, mol: &Mol, place: u16, x: Bond) -> bool
     requires { place < length mol.now.bonds }

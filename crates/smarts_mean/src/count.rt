@@ -1,4 +1,4 @@
-//! How many of an atom's neighbours are hydrogen, and how many of its bonds are ring bonds.
+//! The number of an atom's neighbours that are hydrogen, and of its bonds that are ring bonds.
 ghost use Rattle.std.specs.Prelude.{◌≡◌, ◌<◌, ◌≤◌, ◌↔◌, length, IsTrue};
 ghost use Rattle.chem_core.specs.Graph.{degree, IsRingAtom, IsRingBondCount};
 ghost use Rattle.chem_core.specs.Molecule.{ends_of};
@@ -6,7 +6,7 @@ ghost use Rattle.smarts_parse.specs.Truth.{hydrogen_neighbours};
 
 use chem_core::Mol;
 
-/// How many neighbours the atom has.
+/// The number of neighbours of the atom.
 pub fn degree_of(mol: &Mol, atom: u16) -> usize
     requires { atom < length mol.now.atoms }
     ensures value { result ≡ degree (ends_of mol.now) atom }
@@ -15,7 +15,7 @@ pub fn degree_of(mol: &Mol, atom: u16) -> usize
     mol.neighbours(atom).len()
 }
 
-/// How many neighbours of the atom are hydrogen.
+/// The number of neighbours of the atom that are hydrogen.
 pub fn hydrogen_count(mol: &Mol, atom: u16) -> usize
     requires { atom < length mol.now.atoms }
     ensures value { result ≡ hydrogen_neighbours mol.now atom }
@@ -32,7 +32,7 @@ pub fn hydrogen_count(mol: &Mol, atom: u16) -> usize
     count
 }
 
-/// How many of the atom's bonds are ring bonds.
+/// The number of the atom's bonds that are ring bonds.
 pub fn ring_bond_count(mol: &Mol, atom: u16) -> usize
     requires { atom < length mol.now.atoms }
     ensures { IsRingBondCount (ends_of mol.now) atom result }
@@ -47,7 +47,7 @@ pub fn ring_bond_count(mol: &Mol, atom: u16) -> usize
     count
 }
 
-/// Whether the atom is in a ring.
+/// True if the atom is in a ring.
 pub fn is_ring_atom(mol: &Mol, atom: u16) -> bool
     requires { atom < length mol.now.atoms }
     ensures { IsTrue result ↔ IsRingAtom (ends_of mol.now) atom }

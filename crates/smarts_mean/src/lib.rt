@@ -1,7 +1,7 @@
-//! When a SMARTS expression is true at an atom or a bond of a molecule (Daylight Theory Manual, chapter SMARTS,
+//! The truth of a SMARTS expression at an atom or a bond of a molecule (Daylight Theory Manual, chapter SMARTS,
 //! sections 4.1 to 4.3).
 //!
-//! What a recursive part asks is not worked out here: a table says at which atoms each one holds.
+//! Recursive parts are not searched here: a table has the atoms at which each one holds.
 #![tactic(auto)]
 
 mod atom;

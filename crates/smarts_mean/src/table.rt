@@ -13,7 +13,7 @@ pub const MOST_PARTS: usize = 64;
 // The words of a part's row: a bit for each atom.
 const ROW: usize = 16;
 
-/// At which atoms each recursive part of a pattern holds: room for `MOST_PARTS` parts and `MOST_ATOMS` atoms.
+/// The atoms at which each recursive part of a pattern holds: room for `MOST_PARTS` parts and `MOST_ATOMS` atoms.
 /// Contracts ask it by the part's number and the atom.
 #[derive(Debug, Drop)]
 pub struct RecTable {
@@ -41,7 +41,7 @@ impl RecTable {
         })
     }
 
-    /// Whether the part holds at the atom.
+    /// True if the part holds at the atom.
     pub fn get(&self, part: u16, atom: u16) -> bool
         requires part { part < MOST_PARTS }
         requires atom { atom < MOST_ATOMS }
@@ -51,7 +51,7 @@ impl RecTable {
         (word >> (atom % 64)) & 1 == 1
     }
 
-    /// At which atoms of a block of 64 the part holds.
+    /// The atoms of a block of 64 at which the part holds.
     pub fn block(&self, part: u16, block: usize) -> u64
         requires part { part < MOST_PARTS }
         requires block { block < 16 }
@@ -60,7 +60,7 @@ impl RecTable {
         self.words[ROW * usize::from(part) + block]
     }
 
-    /// Notes at which atoms of a block of 64 the part holds.
+    /// Notes the atoms of a block of 64 at which the part holds.
     pub fn put_block(&mut self, part: u16, block: usize, word: u64)
         requires part { part < MOST_PARTS }
         requires block { block < 16 }

@@ -1,4 +1,4 @@
--- From what a pattern is built, and how far it is: for private clauses only.
+-- The input of a pattern's building, and its progress: for private clauses only.
 use Rattle.std.specs.Prelude.{◌≡◌, ℕ, ◌≤◌, false, List, ◌++◌, length}
 use Rattle.std.specs.List.{list_any, AllByRecursion}
 use Rattle.line_walk.specs.Places.{atoms_by}
@@ -17,15 +17,14 @@ pub record AreFit (values : List AtomValue) : Type 0 where
   pub plain : list_any (λ a. list_any is_stereo a.steps) values ≡ false
   pub few : length values ≤ 256
 
--- what is written can be built
+-- the text can be built
 pub record IsBuildable (whole : Whole) (closed : Closed) : Type 0 where
   pub are : AreClosed whole closed
   pub parts : AreParts (part_texts (top_atoms whole)) whole.parts
   pub fit : AreFit (all_atoms whole)
   pub few : count_of whole.parts ≤ 64
 
--- what one graph is built from: what is written, and the numbers of the recursive parts that are open, the last of
--- which are its own
+-- the input of one graph: its nodes, and the numbers of the open recursive parts, the last of which are its own
 pub record IsReady (nodes : Nodes) (front numbers : List ℕ) (graph : WalkGraph) (open_numbers : List ℕ) : Type 0 where
   pub is : IsGraphBy smarts_words nodes graph
   pub numbered : open_numbers ≡ front ++ numbers

@@ -1,4 +1,4 @@
--- What is read of a text and of its recursive parts: for private clauses only.
+-- A text and its recursive parts as they are read: for private clauses only.
 use Rattle.std.specs.Prelude.{◌≡◌, ℕ, ◌+◌, max, Bool, true, false, ◌||◌, List, [], ◌∷◌, ◌++◌, length, map, reverse}
 use Rattle.std.specs.List.{list_any, AllByRecursion}
 use Rattle.line_walk.specs.Tree as walk
@@ -29,7 +29,7 @@ Read = Reader AtomValue (List (Step BondWord))
 abbrev pub WalkGraph : Type 0
 WalkGraph = Graph AtomValue (List (Step BondWord))
 
--- where the walk ends that reads an item
+-- the bytes at which the walk that reads an item ends
 abbrev pub StopsAfter : Item → List ℕ → Type 0
 StopsAfter (plain tree) rest = Stops rest
 StopsAfter (group tree) rest = Unit {0}
@@ -40,7 +40,7 @@ pub record IsItemOf (bytes : List ℕ) (item : Item) (rest : List ℕ) : Type 0 
   pub spelled : bytes ≡ item_text item ++ rest
   pub stops : StopsAfter item rest
 
--- the item stands in parentheses
+-- the item is in parentheses
 abbrev pub is_group : Item → Bool
 is_group (plain tree) = false
 is_group (group tree) = true
@@ -69,8 +69,8 @@ abbrev pub join : Parts → Parts → Parts
 join none q = q
 join (part tree inner others) q = part tree inner (join others q)
 
--- Recursive parts become others as parentheses close, one after another, after these trees: the last parts so far are
--- those in the tree, and the part of the tree takes their place.
+-- Recursive parts change as parentheses close, in the order of these trees. The last parts so far are those in the
+-- tree, and the tree's part replaces them.
 abbrev pub Close : Parts → List Tree → Parts → Type 0
 Close p [] all = p ≡ all
 Close p (tree ∷ trees) all =
@@ -116,7 +116,7 @@ IsOpenBy whole Ring = ¬ DoRingsPair whole
 IsOpenBy whole NoMemory = Unit {0}
 IsOpenBy whole _ = ⊥
 
--- the same of recursive parts
+-- as `IsOpenBy`, of recursive parts
 abbrev pub AreOpenBy : List Tree → SmartsFault → Type 0
 AreOpenBy trees Ring = ¬ AllByRecursion (λ t. DoPair (placed_nodes t)) trees
 AreOpenBy trees NoMemory = Unit {0}
@@ -126,14 +126,14 @@ AreOpenBy trees _ = ⊥
 abbrev pub any_atom : (AtomValue → Bool) → Draft → Bool
 any_atom test d = list_any test d.top.atoms.items || list_any (λ r. list_any test r.atoms.items) d.parts.items
 
--- the sizes of one text are taken in, which stands within so many recursive parts, itself included
+-- the sizes of one text are taken in, which is within `level` recursive parts, itself included
 pub record IsTaken (old new : Sizes) (count deep level : ℕ) : Type 0 where
   pub atoms : new.atoms ≡ old.atoms + count
   pub parts : new.parts ≡ old.parts
   pub nesting : new.nesting ≡ max old.nesting level
   pub depth : new.depth ≡ max old.depth deep
 
--- a recursive part that is left to read, and within how many it stands, itself included
+-- a recursive part that is left to read, and the number of parts round it, itself included
 pub record Left : Type 0 where
   pub text : List ℕ
   pub level : ℕ

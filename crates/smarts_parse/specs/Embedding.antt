@@ -1,4 +1,4 @@
--- Where a pattern embeds in a molecule. No order of search is in it.
+-- The embeddings of a pattern in a molecule. No order of search is in it.
 use Rattle.std.specs.Prelude.{◌≡◌, ◌≢◌, ◌↔◌, ℕ, zero, suc, ◌<◌, ◌==◌, List, length, slice_get, slice_index, Some, All, AllPairs, MatchBool}
 use Rattle.chem_core.specs.Graph.{JoinsAt}
 use Rattle.chem_core.specs.Molecule.{Molecule, ends_of}
@@ -12,15 +12,15 @@ abbrev pub BondEmbeds : Molecule → List ℕ → BondTerm → Type 0
 BondEmbeds m image bond = (b : ℕ) × JoinsAt (ends_of m) b (slice_index image bond.a) (slice_index image bond.b)
     × BondTrue bond.expr m b
 
--- Of the atoms in groups two are in one group exactly where their images are in one component. 0 is no group.
+-- Of the atoms in groups two are in one group exactly if their images are in one component. 0 is no group.
 abbrev pub AreGrouped : List ℕ → Molecule → List ℕ → Type 0
 AreGrouped groups m image = (i j : ℕ) → i < length image → j < length image → slice_index groups i ≢ 0
     → slice_index groups j ≢ 0
     → (slice_index groups i ≡ slice_index groups j) ↔ Reaches (ends_of m) (slice_index image i) (slice_index image j)
 
--- An embedding: distinct atoms of the molecule, one for each atom of the pattern, at which its expression is true; for
--- each bond of the pattern a bond of the molecule between the two; each group in one component, and different groups in
--- different ones. Bonds that the pattern does not name may stand between the atoms.
+-- An embedding: distinct atoms of the molecule, one for each atom of the pattern, at which its expression is true. Each
+-- bond of the pattern has a bond of the molecule between its two images. Each group is in one component, and different
+-- groups in different ones. The molecule may have more bonds between the atoms.
 pub record IsEmbedding (parts : ℕ → ℕ → Type 0) (g : GraphTerm) (m : Molecule) (image : List ℕ) : Type 0 where
   pub one_each : length image ≡ length g.atoms
   pub in_range : All (λ a. a < length m.atoms) image
@@ -29,7 +29,7 @@ pub record IsEmbedding (parts : ℕ → ℕ → Type 0) (g : GraphTerm) (m : Mol
   pub bonds : All (BondEmbeds m image) g.bonds
   pub groups : AreGrouped g.groups m image
 
--- The recursive parts of numbers below n: part k holds at a where some embedding of it has a as its first atom.
+-- The recursive parts of numbers below n: part k holds at a if it has an embedding with a as its first atom.
 abbrev pub PartsHold : List GraphTerm → Molecule → ℕ → ℕ → ℕ → Type 0
 PartsHold recs m zero k a = ⊥
 PartsHold recs m (suc n) k a =

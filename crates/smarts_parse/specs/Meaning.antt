@@ -1,5 +1,5 @@
--- What a pattern's text means: its graphs, with the numbers of recursive parts and the numbers that are not written.
--- For callers.
+-- The meaning of a pattern's text: its graphs, with the numbers of recursive parts and the numbers that are not
+-- written. For callers.
 use Rattle.std.specs.Prelude.{◌≡◌, ℕ, zero, suc, ◌+◌, List, [], ◌∷◌, ◌++◌, length, map, drop, replicate, Option, None, Some, unwrap_or}
 use Rattle.line_walk.specs.Places.{placed_nodes, entries_from, atoms_by}
 use Rattle.line_walk.specs.Partners.{IsGraph}
@@ -28,8 +28,8 @@ postfix (Not e) = postfix e ++ steps.Not ∷ []
 postfix (And e f) = postfix e ++ (postfix f ++ steps.And ∷ [])
 postfix (Or e f) = postfix e ++ (postfix f ++ steps.Or ∷ [])
 
--- A letter and its number. Where no number is written it is 1, or at least 1 for `h` and `x`; `R` and `r` then ask for
--- any ring.
+-- A letter and its number. If no number is written it is 1, or at least 1 for `h` and `x`; `R` and `r` then ask for any
+-- ring.
 abbrev pub count_prim : Letter → Option ℕ → AtomPrim
 count_prim letters.Degree n = atoms.Degree (unwrap_or n 1)
 count_prim letters.TotalH n = atoms.TotalH (unwrap_or n 1)
@@ -107,8 +107,8 @@ AreBondTerms _ _ = ⊥
 abbrev pub for_each : Tree → ℕ → List ℕ
 for_each tree n = replicate (length (placed_nodes tree)) n
 
--- The group of each atom: the number of its parentheses, of which n stood before, counted from 1 in order, or 0
--- outside of them (Daylight Theory Manual, section 4.5).
+-- The group of each atom: the number of its parentheses, counted from n + 1 in order, or 0 outside of them (Daylight
+-- Theory Manual, section 4.5).
 abbrev pub groups_from : ℕ → List Item → List ℕ
 groups_from n [] = []
 groups_from n (plain tree ∷ items) = for_each tree 0 ++ groups_from n items

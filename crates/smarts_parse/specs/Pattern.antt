@@ -1,4 +1,4 @@
--- Patterns as plain trees, without where they lie in memory.
+-- Patterns as plain trees, without their places in memory.
 use Rattle.std.specs.Prelude.{ℕ, List, map}
 use Rattle.smarts_parse.specs.declared.pattern.AtomPrim.{AtomPrim}
 use Rattle.smarts_parse.specs.declared.pattern.BondPrim.{BondPrim}
@@ -21,7 +21,7 @@ pub record BondTerm : Type 0 where
   pub b : ℕ
   pub expr : Term BondPrim
 
--- an expression for each atom, bonds between them, and the group of each atom: from 1 on, or 0 in none
+-- an expression for each atom, bonds between them, and the group of each atom: from 1 on, or 0 for no group
 pub record GraphTerm : Type 0 where
   pub atoms : List (Term AtomPrim)
   pub bonds : List BondTerm

@@ -33,8 +33,8 @@ is_ring_set (steps.Prim (words.Count letters.Rings (Some zero))) = false
 is_ring_set (steps.Prim (words.Count letters.Rings (Some (suc n)))) = true
 is_ring_set _ = false
 
--- A configuration stands at an atom, or `/` or `\` in the text. No other piece of the grammar has these two bytes, so
--- they stand in the text exactly where the configuration of a bond does.
+-- A configuration is at an atom, or `/` or `\` is in the text. No other piece of the grammar has these two bytes, so
+-- they are in the text exactly if a bond has a configuration.
 abbrev pub HasStereo : List ℕ → Whole → Type 0
 HasStereo text whole = (list_any (λ a. list_any is_stereo a.steps) (all_atoms whole) ≡ true) ⊎ Contains text 47
     ⊎ Contains text 92
@@ -68,7 +68,7 @@ pub record IsRead (text : List ℕ) (whole : Whole) : Type 0 where
   pub reaction : ¬ Contains text 62
   pub is : IsWholeOf text whole
 
--- What was found before a cause: nothing before it in the order
+-- The facts before a cause: no earlier cause of the order
 abbrev pub NoStereo : List ℕ → Whole → Type 0
 NoStereo text whole = IsRead text whole × ¬ HasStereo text whole
 

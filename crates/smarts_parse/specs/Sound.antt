@@ -1,4 +1,4 @@
--- What every pattern keeps that is read.
+-- Facts of every pattern that is read.
 use Rattle.std.specs.Prelude.{◌≡◌, ◌≢◌, ℕ, ◌+◌, ◌<◌, ◌≤◌, length, map, slice_get, sum_by, Some, All}
 use Rattle.chem_core.specs.Graph.{Ends, JoinsAt}
 use Rattle.smarts_parse.specs.declared.pattern.AtomPrim.{AtomPrim}
@@ -21,7 +21,7 @@ NamesBelow n (Not e) = NamesBelow n e
 NamesBelow n (And e f) = NamesBelow n e × NamesBelow n f
 NamesBelow n (Or e f) = NamesBelow n e × NamesBelow n f
 
--- a graph has an atom, its bonds' ends are distinct and in range, no two bonds join the same atoms, it names parts
+-- a graph has an atom; its bonds' ends are distinct and in range, and no two bonds join the same atoms. It names parts
 -- below n alone, and each atom has a group or 0
 pub record IsSoundGraph (n : ℕ) (g : GraphTerm) : Type 0 where
   pub some : 0 < length g.atoms
@@ -31,7 +31,7 @@ pub record IsSoundGraph (n : ℕ) (g : GraphTerm) : Type 0 where
   pub names : All (NamesBelow n) g.atoms
   pub groups : length g.groups ≡ length g.atoms
 
--- at most 256 atoms in all parts together and 64 recursive parts, each of which names parts of smaller number alone
+-- at most 256 atoms in all parts together and 64 recursive parts, each of which names only parts of smaller number
 pub record IsSoundPattern (p : PatternTerm) : Type 0 where
   pub top : IsSoundGraph (length p.recs) p.top
   pub parts : (j : ℕ) (g : GraphTerm) → slice_get p.recs j ≡ Some g → IsSoundGraph j g

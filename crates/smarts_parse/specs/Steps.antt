@@ -11,14 +11,14 @@ use Rattle.smarts_parse.specs.Pattern.{term_of}
 use Rattle.smarts_parse.specs.Meaning.{postfix}
 use Rattle.smarts_parse.specs.Reading.{is_stereo}
 
--- how many expressions a step is said of
+-- the number of expressions that a step takes
 abbrev pub operands : {P : Type 0} → Step P → ℕ
 operands (steps.Prim p) = 0
 operands steps.Not = 1
 operands steps.And = 2
 operands steps.Or = 2
 
--- where n expressions stand before these steps, one stands after them
+-- if n expressions precede these steps, one is left after them
 abbrev pub LeaveOne : {P : Type 0} → ℕ → List (Step P) → Type 0
 LeaveOne n [] = n ≡ 1
 LeaveOne n (s ∷ ss) = (operands s ≤ n) × LeaveOne (n - operands s + 1) ss
@@ -27,7 +27,7 @@ LeaveOne n (s ∷ ss) = (operands s ≤ n) × LeaveOne (n - operands s + 1) ss
 abbrev pub stacked : {P : Type 0} → List (Expr P) → List (Step P)
 stacked xs = flat_map (λ x. postfix (term_of x)) xs
 
--- how many recursive parts a step names
+-- the number of recursive parts that a step names
 abbrev pub part_count : Step AtomWord → ℕ
 part_count (steps.Prim words.Part) = 1
 part_count _ = 0

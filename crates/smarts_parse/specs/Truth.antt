@@ -1,5 +1,5 @@
--- When an expression is true (Daylight Theory Manual, chapter SMARTS, sections 4.1 to 4.3). What the recursive parts
--- hold at is given by `parts`: number, atom.
+-- The truth of an expression (Daylight Theory Manual, chapter SMARTS, sections 4.1 to 4.3). `parts` gives the truth of
+-- a recursive part: number, atom.
 use Rattle.std.specs.Prelude.{◌≡◌, ◌⊎◌, ℕ, ◌+◌, ◌≤◌, Bool, true, false, ◌==◌, ◌&&◌, ◌||◌, slice_get, count_by, None, Some, option_map, unwrap_or}
 use Rattle.chem_core.specs.declared.mol.Atom.{Atom}
 use Rattle.chem_core.specs.declared.mol.Bond.{Bond}
@@ -16,12 +16,12 @@ use Rattle.smarts_parse.specs.Pattern.{Term, Prim, Not, And, Or}
 abbrev pub is_hydrogen : Molecule → ℕ → Bool
 is_hydrogen m a = unwrap_or (option_map (λ x. x.number == 1) (slice_get m.atoms a)) false
 
--- how many neighbours of the atom are hydrogen
+-- the number of neighbours of the atom that are hydrogen
 abbrev pub hydrogen_neighbours : Molecule → ℕ → ℕ
 hydrogen_neighbours m a = count_by (λ e. ((e.0 == a) && is_hydrogen m e.1) || ((e.1 == a) && is_hydrogen m e.0))
     (ends_of m)
 
--- A primitive at the atom x, which stands at place a.
+-- A primitive at the atom x, which is at place a.
 abbrev pub AtomPrimTrue : (ℕ → ℕ → Type 0) → AtomPrim → Molecule → ℕ → Atom → Type 0
 AtomPrimTrue parts atoms.Any m a x = Unit {0}
 AtomPrimTrue parts atoms.Aromatic m a x = x.aromatic ≡ true
@@ -50,7 +50,7 @@ AtomTrue parts (Not e) m a = ¬ AtomTrue parts e m a
 AtomTrue parts (And e f) m a = AtomTrue parts e m a × AtomTrue parts f m a
 AtomTrue parts (Or e f) m a = AtomTrue parts e m a ⊎ AtomTrue parts f m a
 
--- A primitive at the bond x, which stands at place b.
+-- A primitive at the bond x, which is at place b.
 abbrev pub BondPrimTrue : BondPrim → Molecule → ℕ → Bond → Type 0
 BondPrimTrue bonds.Single m b x = x.kind ≡ kinds.Single
 BondPrimTrue bonds.Double m b x = x.kind ≡ kinds.Double

@@ -1,5 +1,5 @@
 -- The whole grammar of patterns: items, and in their atoms recursive parts (Daylight Theory Manual, sections 4.4 and
--- 4.5). A text is a pattern's exactly where some Whole that is one is spelled so. For callers.
+-- 4.5). A text is a pattern's exactly if it spells a Whole that is one. For callers.
 use Rattle.std.specs.Prelude.{◌≡◌, ℕ, ◌+◌, max, List, [], ◌∷◌, ◌++◌, length}
 use Rattle.std.specs.List.{flat_map}
 use Rattle.line_walk.specs.Tree as walk
@@ -34,7 +34,7 @@ abbrev pub others_text : List Item → List ℕ
 others_text [] = []
 others_text (x ∷ xs) = 46 ∷ (item_text x ++ others_text xs)
 
--- runs joined by a dot are one item, so of two items side by side one stands in parentheses
+-- runs joined by a dot are one item, so of two items side by side one is in parentheses
 abbrev pub MayMeet : Item → Item → Type 0
 MayMeet (plain s) (plain t) = ⊥
 MayMeet _ _ = Unit {0}
@@ -69,7 +69,7 @@ pub record Whole : Type 0 where
   pub others : List Item
   pub parts : Parts
 
--- the nodes of items, where so many stand before
+-- the nodes of items, after n others
 abbrev pub nodes_from : ℕ → List Item → Nodes
 nodes_from n [] = []
 nodes_from n (x ∷ xs) = placed_at n (tree_of x) ++ nodes_from (n + length (placed_at n (tree_of x))) xs
@@ -99,17 +99,17 @@ parts_atoms (part tree inner others) = tree_atoms tree ++ (parts_atoms inner ++ 
 abbrev pub all_atoms : Whole → List AtomValue
 all_atoms whole = top_atoms whole ++ parts_atoms whole.parts
 
--- how many recursive parts there are
+-- the number of recursive parts
 abbrev pub count_of : Parts → ℕ
 count_of none = 0
 count_of (part tree inner others) = count_of inner + 1 + count_of others
 
--- how many stand within one another, at most
+-- the greatest number of them within one another
 abbrev pub nesting_of : Parts → ℕ
 nesting_of none = 0
 nesting_of (part tree inner others) = max (nesting_of inner + 1) (nesting_of others)
 
--- how many branches are open at once, at most, in one part
+-- the greatest number of branches open at once, in one part
 abbrev pub parts_depth : Parts → ℕ
 parts_depth none = 0
 parts_depth (part tree inner others) = max (walk.depth_of tree.tail) (max (parts_depth inner) (parts_depth others))

@@ -1,4 +1,4 @@
-//! From what is written to a pattern: its expressions, and the numbers of its recursive parts.
+//! From the written form to a pattern: its expressions, and the numbers of its recursive parts.
 
 ghost use Rattle.std.specs.Prelude.{◌≡◌, ◌≢◌, ℕ, ◌≤◌, ◌<◌, ◌∷◌, List, [], false, length, map, drop, All, IfOk, OnOk};
 ghost use Rattle.std.specs.List.{list_any, AllByRecursion};
@@ -17,7 +17,7 @@ use line_walk::Link;
 use smarts_words::{PatternAtom, PatternBond};
 use std::alloc::{AllocError, Global};
 
-/// The pattern of what is written. Recursive parts are numbered in the order in which their parentheses close.
+/// The pattern of a closed text. Recursive parts are numbered in the order in which their parentheses close.
 pub fn pattern(alloc: Global, closed: Closed<'_>) -> Result<Pattern, AllocError>
     requires { (whole : Whole) × IsBuildable whole closed }
     ensures { IfOk result (λ p. (whole : Whole) → IsBuildable whole closed.entry
@@ -53,7 +53,7 @@ fn put_graph(
     Ok(())
 }
 
-// The graph of what is written, with these groups. Its recursive parts are those that were opened last, whose numbers
+// The graph of one written text, with these groups. Its recursive parts are those that were opened last, whose numbers
 // it takes.
 fn graph(
     alloc: Global,
@@ -78,7 +78,7 @@ fn graph(
     })
 }
 
-// How many recursive parts atoms have.
+// The number of recursive parts of atoms.
 fn part_count(atoms: &[PatternAtom]) -> usize
     requires { length (part_texts atoms.now) ≤ 64 }
     ensures { result ≡ length (part_texts atoms.now) }

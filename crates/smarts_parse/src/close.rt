@@ -15,7 +15,7 @@ use std::alloc::Global;
 /// Atoms and bonds as they are written.
 pub type Written<'a> = Graph<'a, PatternAtom, PatternBond>;
 
-/// What is written in a text, and in its recursive parts in the order in which their parentheses close.
+/// A text as it is written, and its recursive parts in the order in which their parentheses close.
 #[derive(Drop)]
 pub struct Closed<'a> {
     pub top: Written<'a>,
@@ -24,7 +24,7 @@ pub struct Closed<'a> {
     pub groups: Vec<u16>,
 }
 
-/// Pairs the ring numbers of a draft. `Ring` is the answer where those of one part do not pair.
+/// Pairs the ring numbers of a draft. `Ring` if those of one part do not pair.
 pub fn close<'a>(alloc: Global, draft: Draft<'a>) -> Result<Closed<'a>, SmartsFault>
     ensures found { IfOk result (λ r. (whole : Whole) → IsDraftOf whole draft.entry
         → AreClosed whole r) }

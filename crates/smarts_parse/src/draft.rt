@@ -1,4 +1,4 @@
-//! A pattern as it is read: the atoms and bonds of a text and of its recursive parts, and what of them has a limit.
+//! A pattern as it is read: the atoms and bonds of a text and of its recursive parts, and their sizes.
 
 ghost use Rattle.std.specs.Prelude.{◌≡◌, ◌⊎◌, ℕ, ◌+◌, ◌^◌, ◌<◌, ◌≤◌, ◌++◌, ◌↔◌, max, length, map, List, IsTrue, IfOk, IfErr, OnOk, IsErrOf};
 ghost use Rattle.std.specs.List.{list_any};
@@ -28,7 +28,7 @@ const MOST_DEPTH: usize = 256;
 /// A text that is in the grammar, before anything else of it is refused.
 #[derive(Drop)]
 pub struct Draft<'a> {
-    /// Its items, without what stands in recursive parts.
+    /// Its items, without the contents of recursive parts.
     pub top: Read<'a>,
     /// The recursive parts: each before the parts in it, and a right one before those to the left of it. So their
     /// parentheses close in the opposite order.
@@ -38,7 +38,7 @@ pub struct Draft<'a> {
     pub sizes: Sizes,
 }
 
-/// What of a text and its recursive parts has a limit.
+/// The sizes of a text and its recursive parts that have a limit.
 #[derive(Clone, Copy)]
 pub struct Sizes {
     /// The atoms of all parts together.
@@ -52,7 +52,7 @@ pub struct Sizes {
 }
 
 impl Sizes {
-    /// Whether each is within its limit.
+    /// True if each is within its limit.
     pub fn are_within_limits(&self) -> bool
         ensures { IsTrue result ↔ ((self.now.atoms ≤ 256) × (self.now.parts ≤ 64)
             × (self.now.nesting ≤ 8) × (self.now.depth ≤ 256)) }
@@ -63,7 +63,7 @@ impl Sizes {
             && self.depth <= MOST_DEPTH
     }
 
-    // Takes in what a reader holds of a text that stands within `level` recursive parts, itself included.
+    // Takes in the sizes of a reader whose text is within `level` recursive parts, itself included.
     fn take(&mut self, reader: &Read<'_>, level: usize)
         requires { self.old.atoms + length reader.now.atoms.items < 2 ^ 64 }
         ensures { IsTaken self.old self.new (length reader.now.atoms.items) reader.now.depth level }
@@ -74,14 +74,14 @@ impl Sizes {
     }
 }
 
-// A recursive part that is left to read, and within how many it stands, itself included.
+// A recursive part that is left to read, and the number of parts round it, itself included.
 #[derive(Drop)]
 struct Part {
     text: Vec<u8>,
     level: usize,
 }
 
-/// Reads a text and all its recursive parts, each once. `Syntax` is the answer where one of them has no tree.
+/// Reads a text and all its recursive parts, each once. `Syntax` if one of them has no tree.
 pub fn read_draft<'a>(alloc: Global, arena: &'a Bump, text: &[u8]) -> Result<Draft<'a>, SmartsFault>
     requires { length text.now ≤ most_bytes }
     ensures found { IfOk result (λ d. (whole : Whole) × IsWholeOf text.now whole
@@ -116,14 +116,14 @@ pub fn read_draft<'a>(alloc: Global, arena: &'a Bump, text: &[u8]) -> Result<Dra
     })
 }
 
-/// Whether an atom of a draft has a configuration.
+/// True if an atom of a draft has a configuration.
 pub fn any_stereo(draft: &Draft<'_>) -> bool
     ensures { result ≡ any_atom (λ a. list_any is_stereo a.steps) draft.now }
 {
     reads_stereo(&draft.top) || some_reads_stereo(&draft.parts)
 }
 
-/// Whether an atom of a draft has a count of rings of a ring set.
+/// True if an atom of a draft has a count of rings of a ring set.
 pub fn any_ring_set(draft: &Draft<'_>) -> bool
     ensures { result ≡ any_atom (λ a. list_any is_ring_set a.steps) draft.now }
 {

@@ -120,7 +120,7 @@ fn atom_step(step: Step<AtomWord>, numbers: &[u16]) -> (Step<AtomPrim>, &[u16])
     }
 }
 
-// What a primitive of an atom means, with the numbers that are not written.
+// The meaning of a primitive of an atom, with the numbers that are not written.
 fn atom_prim(word: AtomWord) -> AtomPrim
     requires part { word ≢ words.Part }
     requires stereo { word ≢ words.Stereo }
@@ -140,7 +140,7 @@ fn atom_prim(word: AtomWord) -> AtomPrim
     }
 }
 
-// What a letter and its number count.
+// The meaning of a letter and its number.
 fn count_prim(letter: Letter, number: Option<u16>) -> AtomPrim
     ensures { result ≡ meaning.count_prim letter number }
 {
@@ -175,7 +175,7 @@ fn bond_step(step: Step<BondWord>) -> Step<BondPrim>
     }
 }
 
-// What a primitive of a bond means. `/` and `\` are refused before.
+// The meaning of a primitive of a bond. `/` and `\` are refused before.
 fn bond_prim(word: BondWord) -> BondPrim
     ensures { result ≡ meaning.bond_prim word }
 {

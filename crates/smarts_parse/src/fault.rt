@@ -1,4 +1,4 @@
-//! Why a text is no pattern.
+//! Why a text is not a pattern.
 
 ghost use Rattle.std.specs.Prelude.{◌≡◌};
 ghost use Rattle.smarts_parse.specs.declared.fault.SmartsFault.TheVariants.{NoMemory};
@@ -8,7 +8,7 @@ use line_walk::Fault;
 use std::alloc::{AllocError, AllocFailed};
 use thiserror::Error;
 
-/// Why a text is no pattern.
+/// Why a text is not a pattern.
 #[derive(Clone, Copy, Debug, PartialEq, Eq, Error)]
 pub enum SmartsFault {
     /// `>`: reactions are not read.
@@ -20,7 +20,7 @@ pub enum SmartsFault {
     /// `/`, `\` or `@` in brackets: configurations are not read.
     #[error("a configuration is not read")]
     Stereo,
-    /// `R<n>` with n above 0, in how many rings of a ring set an atom is: such sets are not unique.
+    /// `R<n>` with n above 0, the number of rings of a ring set at an atom: such sets are not unique.
     #[error("a count of a ring set")]
     RingSet,
     /// A ring number that is open at the end, has two bonds that differ, or joins atoms that are one or bonded.

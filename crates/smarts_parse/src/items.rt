@@ -15,7 +15,7 @@ use bumpalo::Bump;
 use line_walk::{Notation, Reader, no_reader, read_part};
 use std::alloc::{AllocError, Global};
 
-/// What a text holds as a whole, without its recursive parts.
+/// A text as a whole, without its recursive parts.
 pub type Read<'a> = Reader<'a, smarts_words::PatternAtom, smarts_words::PatternBond>;
 
 /// The items of a text, all of them in one reader.
@@ -65,7 +65,7 @@ pub fn read_plain<'a>(alloc: Global, arena: &'a Bump, text: &[u8]) -> Result<Rea
     Ok(reader)
 }
 
-// The group of an item after so many groups: the next number, or 0 without parentheses.
+// The group of the item after `count` groups: the next number, or 0 without parentheses.
 fn group_after(count: u16, is_group: bool) -> u16
     requires { count ≤ most_bytes }
     ensures { result ≡ cond is_group (count + 1) 0 }
@@ -73,7 +73,7 @@ fn group_after(count: u16, is_group: bool) -> u16
     if is_group { count + 1 } else { 0 }
 }
 
-// Gives the group to each of the first atoms that has none yet.
+// Gives the group to each of the first `atoms` atoms that has no group yet.
 fn put_group(groups: &mut Vec<u16>, atoms: usize, group: u16) -> Result<(), AllocError>
     requires { length groups.old.items ≤ atoms }
     ensures { OnOk result (groups.new.items
@@ -82,7 +82,7 @@ fn put_group(groups: &mut Vec<u16>, atoms: usize, group: u16) -> Result<(), Allo
     groups.resize(atoms, group)
 }
 
-// Reads the item that the bytes begin with: whether it stands in parentheses, and the bytes after it.
+// Reads the item that the bytes begin with. Returns true if it is in parentheses, and the bytes after it.
 fn item<'a>(
     alloc: Global,
     reader: &mut Read<'_>,

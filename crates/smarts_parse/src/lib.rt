@@ -1,9 +1,9 @@
-//! SMARTS patterns: what they are, what makes them true, and how they are read (Daylight Theory Manual, chapter
+//! SMARTS patterns: their graphs, their truth at a molecule, and their reading (Daylight Theory Manual, chapter
 //! SMARTS).
 //!
-//! A text and its recursive parts are read once, to a draft: whether all of it is in the grammar. What of the draft is
-//! refused is answered in a fixed order. Then its ring numbers are paired, and the graphs are built, those of recursive
-//! parts in the order in which their parentheses close.
+//! A text and its recursive parts are read once, to a draft, if all of it is in the grammar. Parts of the draft that
+//! are refused are reported in a fixed order. Then its ring numbers are paired, and the graphs are built, those of
+//! recursive parts in the order in which their parentheses close.
 #![tactic(auto)]
 
 mod build;

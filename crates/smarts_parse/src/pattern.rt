@@ -1,6 +1,6 @@
 //! Patterns: atom and bond expressions as trees, and the graphs of a pattern and of its recursive parts.
 
-/// What an atom expression is made of.
+/// The primitives of an atom expression.
 #[derive(Clone, Copy, Debug, PartialEq, Eq)]
 pub enum AtomPrim {
     /// `*`
@@ -13,11 +13,11 @@ pub enum AtomPrim {
     Symbol { number: u8, lower: bool },
     /// `#n`, the atomic number.
     Number(u16),
-    /// `D<n>`, so many neighbours.
+    /// `D<n>`, n neighbours.
     Degree(u16),
-    /// `H<n>`, so many hydrogens, atoms or not.
+    /// `H<n>`, n hydrogens, atoms or not.
     TotalH(u16),
-    /// `h<n>`, so many hydrogens that are no atoms; with no number at least one.
+    /// `h<n>`, n hydrogens that are not atoms; with no number at least one.
     ImplicitH(Option<u16>),
     /// `R` or `r`, an atom of a ring.
     Ring,
@@ -27,19 +27,19 @@ pub enum AtomPrim {
     Small(u16),
     /// `v<n>`
     Valence(u16),
-    /// `X<n>`, so many neighbours and hydrogens.
+    /// `X<n>`, n neighbours and hydrogens.
     Connect(u16),
-    /// `x<n>`, so many ring bonds; with no number at least one.
+    /// `x<n>`, n ring bonds; with no number at least one.
     RingBonds(Option<u16>),
     /// `+n` or `-n`
     Charge(i16),
-    /// A mass number; 0 where none is written.
+    /// A mass number; 0 if it is not written.
     Mass(u16),
     /// `$(..)`: the recursive part of that number embeds with its first atom there.
     Rec(u16),
 }
 
-/// What a bond expression is made of.
+/// The primitives of a bond expression.
 #[derive(Clone, Copy, Debug, PartialEq, Eq)]
 pub enum BondPrim {
     /// `-`, single and not aromatic.
@@ -82,8 +82,8 @@ pub struct PatBond {
 pub struct Graph {
     pub atoms: Vec<Expr<AtomPrim>>,
     pub bonds: Vec<PatBond>,
-    /// For each atom the number of the zero-level parentheses that it stands in, from 1 on, or 0 where it stands in
-    /// none. Atoms of one group lie in one component of a molecule, those of different groups in different ones.
+    /// For each atom the number of its zero-level parentheses, from 1 on, or 0 outside of them. Atoms of one group lie
+    /// in one component of a molecule, those of different groups in different ones.
     pub groups: Vec<u16>,
 }
 

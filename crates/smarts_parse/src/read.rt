@@ -23,10 +23,10 @@ const MOST_BYTES: usize = 4096;
 
 /// Reads a SMARTS pattern (Daylight Theory Manual, chapter SMARTS).
 ///
-/// Of several faults the first of this order is answered: more than 4,096 bytes is `Limit`; a `>` is `Reaction`; a text
-/// that is not in the grammar is `Syntax`; a configuration is `Stereo`; `R` with a number above 0 is `RingSet`; ring
-/// numbers that do not pair are `Ring`; more than 256 atoms, 64 recursive parts, 8 of these within one another, or 256
-/// branches open at once is `Limit`. `NoMemory` may come at any text.
+/// The first fault of this order is returned. `Limit`: more than 4,096 bytes. `Reaction`: a `>`. `Syntax`: a text that
+/// is not in the grammar. `Stereo`: a configuration. `RingSet`: `R` with a number above 0. `Ring`: ring numbers that do
+/// not pair. `Limit`: more than 256 atoms, 64 recursive parts, 8 of these within one another, or 256 branches open at
+/// once. `NoMemory` may come at any text.
 pub fn parse(alloc: Global, text: &[u8]) -> Result<Pattern, SmartsFault>
     ensures reading { IsReading text.now (answer_of result) }
     ensures sound { IfOk result (λ p. IsSoundPattern (pattern_of p)) }
@@ -58,21 +58,21 @@ pub fn one_tree()
     ensures { (text : List ℕ) (v w : Whole) → IsWholeOf text v → IsWholeOf text w → v ≡ w }
 {}
 
-/// A law: a text has one answer, but for want of memory.
+/// A law: except for want of memory, a text has one answer.
 pub fn one_answer()
     ensures { (text : List ℕ) (r s : Result PatternTerm SmartsFault) → IsReading text r → IsReading text s
         → r ≢ Err NoMemory → s ≢ Err NoMemory → r ≡ s }
 {}
 
-/// A law: a text that has a tree, no configuration and no count of a ring set, whose ring numbers pair, and that is
-/// within the limits, is refused only for want of memory.
+/// A law: a text that has no other fault is refused only for want of memory. It has a tree, no configuration, no count
+/// of a ring set, ring numbers that pair, and is within the limits.
 pub fn is_complete()
     ensures { (text : List ℕ) (whole : Whole) (r : Result PatternTerm SmartsFault)
         → NoLimit text whole → IsReading text r
         → (r ≡ Err NoMemory) ⊎ ((p : PatternTerm) × (r ≡ Ok p)) }
 {}
 
-// Whether a configuration stands at an atom or at a bond.
+// True if an atom or a bond has a configuration.
 fn has_stereo(draft: &Draft<'_>, text: &[u8]) -> bool
     ensures { IsTrue result ↔ ((any_atom (λ a. list_any is_stereo a.steps) draft.now ≡ true)
         ⊎ Contains text.now 47 ⊎ Contains text.now 92) }

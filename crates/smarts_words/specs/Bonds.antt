@@ -45,7 +45,7 @@ bond_word (down unsure) = words.Down
 abbrev pub IsBondPrim : BondPrim → Type 0
 IsBondPrim x = Unit {0}
 
--- a `?` that stands there belongs to `/` and `\`
+-- a `?` there belongs to `/` and `\`
 abbrev pub FollowsBondPrim : BondPrim → List ℕ → Type 0
 FollowsBondPrim (up false) rest = (more : List ℕ) → rest ≢ 63 ∷ more
 FollowsBondPrim (down false) rest = (more : List ℕ) → rest ≢ 63 ∷ more
@@ -65,12 +65,12 @@ abbrev pub BeginsBond : ℕ → Type 0
 BeginsBond b = (b ≡ 33) ⊎ (b ≡ 45) ⊎ (b ≡ 61) ⊎ (b ≡ 35) ⊎ (b ≡ 36) ⊎ (b ≡ 58) ⊎ (b ≡ 126) ⊎ (b ≡ 64) ⊎ (b ≡ 47)
     ⊎ (b ≡ 92)
 
--- What a bond is read as: its expression in postfix order, nothing where none is written
+-- The value of a bond: its expression in postfix order, or no steps if it is not written
 abbrev pub bond_value : Option (Expression BondPrim) → List (Step BondWord)
 bond_value None = []
 bond_value (Some e) = expression.expression_steps bond_prim_text IsBondPrim FollowsBondPrim bond_word no_part e
 
--- steps are told apart by numbers
+-- steps are distinguished by numbers
 abbrev pub word_number : BondWord → ℕ
 word_number words.Single = 0
 word_number words.Double = 1
@@ -93,7 +93,7 @@ same_steps [] [] = true
 same_steps (x ∷ xs) (y ∷ ys) = (step_number x == step_number y) && same_steps xs ys
 same_steps _ _ = false
 
--- Two ends agree where one of them is not written, or both have one tree. The bond is what is written.
+-- Two ends agree if one of them is not written, or both have one tree. The bond is the written one.
 abbrev pub agreed_bond : List (Step BondWord) → List (Step BondWord) → Option (List (Step BondWord))
 agreed_bond [] second = Some second
 agreed_bond (x ∷ xs) [] = Some (x ∷ xs)

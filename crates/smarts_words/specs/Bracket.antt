@@ -1,5 +1,5 @@
--- An atom of a pattern as it is written (Daylight Theory Manual, section 4.1). A text is an atom exactly where some
--- Atom that is one is spelled so. For callers.
+-- An atom of a pattern as it is written (Daylight Theory Manual, section 4.1). A text is an atom exactly if it spells
+-- an Atom that satisfies IsAtom. For callers.
 use Rattle.std.specs.Prelude.{◌≢◌, ℕ, ◌≤◌, false, true, List, [], ◌∷◌, ◌++◌, length, map, ℤ, Option, None, Some, codes}
 use Rattle.std.specs.List.{AllByRecursion}
 use Rattle.chem_core.specs.Organic.{Organic, symbol_bytes, atomic_number}
@@ -12,7 +12,7 @@ use Rattle.smarts_words.specs.Prims.{Prim, prim_text, IsPrim, FollowsPrim, word_
 use Rattle.smarts_words.specs.Expression.{Expression, joined}
 use Rattle.smarts_words.specs.Expression as expression
 
--- What an atom is read as: its expression in postfix order, and the texts of its recursive parts from left to right
+-- The value of an atom: its expression in postfix order, and the texts of its recursive parts from left to right
 pub record AtomValue : Type 0 where
   pub steps : List (Step AtomWord)
   pub parts : List (List ℕ)
@@ -62,19 +62,19 @@ abbrev pub inside_text : Inside → List ℕ
 inside_text (hydro h) = hydro_text h
 inside_text (low e) = expression_text e
 
--- what stands in brackets; a class is dropped
+-- the text in brackets; a class is dropped
 pub record Bracket : Type 0 where
   pub inside : Inside
   pub class : Option (List ℕ)
 
--- after what stands inside
+-- after the inside
 abbrev pub end_text : Option (List ℕ) → List ℕ
 end_text class = class_text class ++ 93 ∷ []
 
 abbrev pub bracket_text : Bracket → List ℕ
 bracket_text x = 91 ∷ (inside_text x.inside ++ end_text x.class)
 
--- what can be read as a hydrogen atom is one
+-- an inside that can be read as a hydrogen atom is one
 abbrev pub IsInside : Inside → List ℕ → Type 0
 IsInside (hydro h) rest = IsHydro h
 IsInside (low e) rest = IsExpression e rest × ((h : Hydro) → IsHydro h → hydro_text h ≢ expression_text e)

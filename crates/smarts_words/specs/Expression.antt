@@ -1,16 +1,16 @@
--- Expressions: operands and how they are joined (Daylight Theory Manual, section 4.3). `!` binds most, then `&` and
--- standing side by side, then `,`, then `;`. For callers.
+-- Expressions: operands and the operators that join them (Daylight Theory Manual, section 4.3). `!` binds most, then
+-- `&` and being side by side, then `,`, then `;`. For callers.
 use Rattle.std.specs.Prelude.{ℕ, List, [], ◌∷◌, ◌++◌, map, replicate, codes}
 use Rattle.std.specs.List.{flat_map}
 use Rattle.smarts_words.specs.declared.word.Step.{Step}
 use Rattle.smarts_words.specs.declared.word.Step.TheVariants as steps
 
--- a primitive, and how many `!` stand before it
+-- a primitive, and the number of `!` before it
 pub record Operand (P : Type 0) : Type 0 where
   pub bangs : ℕ
   pub prim : P
 
--- how an operand is joined to the one before: by `;`, `,`, `&`, or side by side
+-- the joint of an operand and the one before: `;`, `,`, `&`, or side by side
 pub data Joining : Type 0 where
   semicolon : Joining
   comma : Joining
@@ -56,7 +56,7 @@ module _ {P W : Type 0} (text : P → List ℕ) (Is : P → Type 0) (Follows : P
   abbrev pub expression_text : Expression P → List ℕ
   expression_text e = operand_text e.first ++ more_text e.more
 
-  -- each primitive is one, and what follows it may follow it, where the expression is followed by the rest
+  -- each primitive is one, and may be followed by its next bytes, if `rest` follows the expression
   abbrev pub AreMore : List (Joining × Operand P) → List ℕ → Type 0
   AreMore [] rest = Unit {0}
   AreMore (x ∷ xs) rest = Is x.1.prim × Follows x.1.prim (more_text xs ++ rest) × AreMore xs rest
@@ -64,7 +64,7 @@ module _ {P W : Type 0} (text : P → List ℕ) (Is : P → Type 0) (Follows : P
   abbrev pub IsExpression : Expression P → List ℕ → Type 0
   IsExpression e rest = Is e.first.prim × Follows e.first.prim (more_text e.more ++ rest) × AreMore e.more rest
 
-  -- In postfix order: what a step is said of stands before it. The tree can be told from it.
+  -- In postfix order: the operands of a step come before it. The steps determine the tree.
   abbrev pub operand_steps : Operand P → List (Step W)
   operand_steps x = steps.Prim (word x.prim) ∷ replicate x.bangs steps.Not
 

@@ -1,4 +1,4 @@
--- What the readers of pieces answer, where what may follow a piece depends on the piece. For private clauses only.
+-- The answers of readers of pieces whose next bytes depend on the piece. For private clauses only.
 use Rattle.std.specs.Prelude.{◌≡◌, ◌≢◌, ◌⊎◌, ℕ, ◌≤◌, List, [], ◌∷◌, ◌++◌, length, ℤ, Option, IfSome, IsSomeAnd}
 use Rattle.smarts_words.specs.Prims.{Turn, one, two, numbered, Prim, any, aromatic, aliphatic, element, lower, counted, part, prim_text, IsPrim, AreSymbol, FollowsPrim, word_of, part_of, NoDigit, number_of}
 use Rattle.smarts_words.specs.Expression.{Expression}
@@ -10,8 +10,8 @@ use Rattle.smarts_words.specs.declared.word.Letter.{Letter}
 use Rattle.smiles_words.specs.Atom.{IsDigit, ChiralClass, class_bytes}
 use Rattle.std.specs.List.{AllByRecursion}
 
--- A piece that the bytes begin with, what it is read as, and the bytes after it; and the piece that stands there, where
--- what follows it may follow it.
+-- A piece that the bytes begin with, its value, and the bytes after it, which may follow it. If a piece there may be
+-- followed by the bytes after it, it is that piece.
 pub record Takes {X V : Type 0} (text : X → List ℕ) (Is : X → Type 0) (Follows : X → List ℕ → Type 0) (value : X
     → V) (bytes : List ℕ) (result : Option (V × List ℕ)) : Type 0 where
   pub found : IfSome result (λ r. (x : X) × Is x × (bytes ≡ text x ++ r.1) × Follows x r.1 × (r.0 ≡ value x))
@@ -54,17 +54,17 @@ pub record IsSingle (a : ℕ) (word : AtomWord) : Type 0 where
   pub spelled : prim_text prim ≡ a ∷ []
   pub value : word ≡ word_of prim
 
--- what is read of the bytes after a letter: its number
+-- the value of the bytes after a letter: its number
 abbrev pub IsCountAt : Letter → List ℕ → Option (AtomWord × List ℕ) → Type 0
 IsCountAt letter = Takes (λ (digits : List ℕ). digits) (λ digits. (length digits ≤ 3) × AllByRecursion IsDigit digits)
     (λ digits rest. NoDigit rest) (λ digits. words.Count letter (number_of digits))
 
--- after one digit stands no other
+-- no other digit follows one digit
 abbrev pub DigitsEnd : List ℕ → List ℕ → Type 0
 DigitsEnd (digit ∷ []) rest = NoDigit rest
 DigitsEnd digits rest = Unit {0}
 
--- no longer turn stands there: no second `@` and no class with a digit, or no second digit
+-- no longer turn is there: no second `@` and no class with a digit, or no second digit
 abbrev pub TurnEnds : Turn → List ℕ → Type 0
 TurnEnds one rest = ((more : List ℕ) → rest ≢ 64 ∷ more) × ((kind : ChiralClass) (digit : ℕ) (more : List ℕ)
     → IsDigit digit → rest ≢ class_bytes kind ++ digit ∷ more)
@@ -80,7 +80,7 @@ abbrev pub IsInsideRead : List ℕ → AtomValue → List ℕ → Type 0
 IsInsideRead bytes value rest = (e : Expression Prim) × IsExpression e rest × (bytes ≡ expression_text e ++ rest)
     × (value ≡ expression_value e)
 
--- after what stands in brackets: `:` or `]`
+-- after the inside of brackets: `:` or `]`
 abbrev pub BeginsEnd : List ℕ → Type 0
 BeginsEnd [] = ⊥
 BeginsEnd (b ∷ bs) = (b ≡ 58) ⊎ (b ≡ 93)

@@ -1,4 +1,4 @@
--- The primitives of an atom expression: their spellings, what may follow them, and what they are read as (Daylight
+-- The primitives of an atom expression: their spellings, the bytes that may follow them, and their values (Daylight
 -- Theory Manual, section 4.1). For callers.
 use Rattle.std.specs.Prelude.{◌≡◌, ◌≢◌, ◌⊎◌, ℕ, ◌+◌, ◌-◌, ◌≤◌, ◌==◌, Bool, true, false, MatchBool, List, [], ◌∷◌, ◌++◌, length, replicate, slice_get, slice_index_or, ℤ, Option, None, Some, codes}
 use Rattle.std.specs.List.{AllByRecursion}
@@ -81,7 +81,7 @@ IsTurn one = Unit {0}
 IsTurn two = Unit {0}
 IsTurn (numbered kind digits) = AreDigits digits
 
--- parentheses pair, where so many are open before
+-- parentheses pair, if n are open before
 abbrev pub IsBalancedIn : ℕ → List ℕ → Type 0
 IsBalancedIn n [] = n ≡ 0
 IsBalancedIn n (b ∷ bs) =
@@ -134,7 +134,7 @@ abbrev pub NoDigit : List ℕ → Type 0
 NoDigit [] = Unit {0}
 NoDigit (b ∷ bs) = ¬ IsDigit b
 
--- a run of signs has all that stand there, and no digit after it
+-- a run of signs has all signs there, and no digit follows it
 abbrev pub FollowsSigns : Signs → List ℕ → Type 0
 FollowsSigns (run sign count) rest = ((more : List ℕ) → rest ≢ sign_byte sign ∷ more) × NoDigit rest
 FollowsSigns (amount sign digits) rest = NoDigit rest
@@ -144,23 +144,22 @@ abbrev pub AreSymbol : ℕ → ℕ → Type 0
 AreSymbol a b = ((number : ℕ) × (slice_get symbols number ≡ Some (a ∷ b ∷ [])))
     ⊎ ((l : Lower) × (lower_bytes l ≡ a ∷ b ∷ []))
 
--- A byte stands alone: it spells no symbol with the byte after it, since two bytes that spell one are taken as it.
+-- A byte is alone: with the byte after it, it spells no symbol. Two bytes that spell one are read as one symbol.
 abbrev pub StandsAlone : ℕ → List ℕ → Type 0
 StandsAlone a [] = Unit {0}
 StandsAlone a (b ∷ bs) = ¬ AreSymbol a b
 
--- the only byte of a symbol stands alone
+-- the only byte of a symbol is alone
 abbrev pub IsWhole : List ℕ → List ℕ → Type 0
 IsWhole (a ∷ []) rest = StandsAlone a rest
 IsWhole _ rest = Unit {0}
 
--- no longer configuration stands there
+-- no longer configuration is there
 abbrev pub IsLongest : Stereo → List ℕ → Type 0
 IsLongest x rest = (y : Stereo) (more : List ℕ) → IsTurn y.turn → stereo_text x ++ rest ≡ stereo_text y ++ more
     → length (stereo_text y) ≤ length (stereo_text x)
 
--- What may follow: a symbol and a configuration are the longest that stand there, and a number has all digits that
--- stand there.
+-- The bytes that may follow: a symbol and a configuration are the longest there, and a number has all digits there.
 abbrev pub FollowsPrim : Prim → List ℕ → Type 0
 FollowsPrim any rest = Unit {0}
 FollowsPrim aromatic rest = StandsAlone 97 rest
@@ -180,7 +179,7 @@ abbrev pub number_of : List ℕ → Option ℕ
 number_of [] = None
 number_of digits = Some (value_of digits)
 
--- what a primitive is read as; of a recursive part its place alone, of a configuration that it is one
+-- the word of a primitive; a recursive part gives its place alone, and a configuration only that it is one
 abbrev pub word_of : Prim → AtomWord
 word_of any = words.Any
 word_of aromatic = words.Aromatic

@@ -19,7 +19,7 @@ pub record Holds {W : Type 0} (lows ors ands : List (List (Step W))) (p : Postfi
   pub in_or : p.in_or ≡ is_some ors
   pub in_low : p.in_low ≡ is_some lows
 
--- an operand: a primitive with so many `!` before it
+-- an operand: a primitive with `bangs` `!` before it
 abbrev pub one_operand : {W : Type 0} → ℕ → W → List (Step W)
 one_operand bangs word = steps.Prim word ∷ replicate bangs steps.Not
 
@@ -31,25 +31,25 @@ abbrev pub lows_ended : {W : Type 0} → List (List (Step W)) → List (List (St
     → List (List (Step W))
 lows_ended lows ors ands = lows ++ joined steps.Or (ors_ended ors ands) ∷ []
 
--- how an operand is joined, where `&` and standing side by side are one
+-- the joint of an operand; `&` and being side by side are one
 abbrev pub joint_of : Joining → Joint
 joint_of semicolon = joints.Semicolon
 joint_of comma = joints.Comma
 joint_of ampersand = joints.And
 joint_of beside = joints.And
 
--- what joins the next operand, and the bytes from that on; nothing where these begin with no `;`, `,` or `&`
+-- the joint of the next operand, and the bytes after it; it is empty only if these begin with no `;`, `,` or `&`
 pub data JoinsAt (bytes : List ℕ) (joint : Joint) (after : List ℕ) : Type 0 where
   joins : (j : Joining) → joint_of j ≡ joint → bytes ≡ joining_text j ++ after
       → (j ≡ beside → (b : ℕ) (bs : List ℕ) → bytes ≡ b ∷ bs → (b ≢ 59) × (b ≢ 44) × (b ≢ 38))
       → JoinsAt bytes joint after
 
--- what stands after an expression in brackets: nothing, `]`, or the `:` of a class
+-- the bytes after an expression in brackets: nothing, `]`, or the `:` of a class
 abbrev pub EndsInside : List ℕ → Type 0
 EndsInside [] = Unit {0}
 EndsInside (b ∷ bs) = (b ≡ 93) ⊎ (b ≡ 58)
 
--- what stands after a bond expression: nothing, or a byte that none goes on with
+-- the bytes after a bond expression: nothing, or a byte that no bond expression goes on with
 abbrev pub EndsBond : List ℕ → Type 0
 EndsBond [] = Unit {0}
 EndsBond (b ∷ bs) = (¬ BeginsBond b) × (b ≢ 59) × (b ≢ 44) × (b ≢ 38)

@@ -7,7 +7,7 @@ use Rattle.smarts_words.specs.Expression.{Expression}
 use Rattle.smarts_words.specs.Bracket.{Atom, atom_text, IsAtom, AtomValue, value_of_atom}
 use Rattle.smarts_words.specs.Bonds.{BondPrim, IsBondExpression, bond_text, BeginsBond, bond_value, agreed_bond}
 
--- `*`, `[`, `a`, `A`, or the first letter of a symbol that stands without brackets
+-- `*`, `[`, `a`, `A`, or the first letter of a symbol without brackets
 abbrev pub BeginsAtom : ℕ → Type 0
 BeginsAtom b =
     (b ≡ 42) ⊎ (b ≡ 91) ⊎ (b ≡ 97) ⊎ (b ≡ 65) ⊎ (b ≡ 66) ⊎ (b ≡ 67) ⊎ (b ≡ 78) ⊎ (b ≡ 79) ⊎ (b ≡ 80) ⊎ (b ≡ 83)

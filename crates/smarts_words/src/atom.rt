@@ -43,7 +43,7 @@ fn bare_at(bytes: &[u8]) -> Option<(AtomWord, &[u8])>
     }
 }
 
-// The primitive of one byte that stands without brackets.
+// The primitive without brackets of one byte.
 fn bare_word(byte: u8) -> Option<AtomWord>
     ensures { MatchOption result ((x : Atom) → IsAtom x → IsBareAtom x → atom_text x ≢ byte ∷ []) (IsBareRead byte) }
 {
@@ -55,7 +55,7 @@ fn bare_word(byte: u8) -> Option<AtomWord>
     }
 }
 
-// The symbol of one byte that stands without brackets.
+// The symbol without brackets of one byte.
 fn organic_word(byte: u8) -> Option<AtomWord>
     requires other { (byte ≢ 42) × (byte ≢ 97) × (byte ≢ 65) }
     ensures { MatchOption result ((x : Atom) → IsAtom x → IsBareAtom x → atom_text x ≢ byte ∷ []) (IsBareRead byte) }

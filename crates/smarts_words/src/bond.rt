@@ -35,7 +35,7 @@ pub fn bond_at(alloc: Global, bytes: &[u8]) -> Result<Option<(PatternBond, &[u8]
     }
 }
 
-/// The bond of two ends, where they agree: what is written at one of them, or at both alike.
+/// The bond of two ends, if they agree: it is written at one of them, or at both alike.
 pub fn agree(first: PatternBond, second: PatternBond) -> Option<PatternBond>
     ensures agreed { result ≡ agreed_bond first second }
     ensures disagree { (result ≡ None) ↔ ((first ≢ []) × (second ≢ []) × (first ≢ second)) }
@@ -82,7 +82,7 @@ fn word_of(byte: u8) -> Option<BondWord>
     }
 }
 
-// How the primitive that stands next is joined, and the bytes from it on; none where none does.
+// The joint of the next primitive, and the bytes from it on; `None` if no primitive follows.
 fn joint_at(bytes: &[u8]) -> Option<(Joint, &[u8])>
     ensures found { IfSome result (λ r. JoinsAt bytes.now r.0 r.1.now) }
     ensures goes { IfSome result (λ r. ¬ EndsBond bytes.now) }
@@ -103,7 +103,7 @@ fn joint_at(bytes: &[u8]) -> Option<(Joint, &[u8])>
     }
 }
 
-// Whether a bond expression may begin with the byte.
+// True if a bond expression may begin with the byte.
 fn begins_bond(byte: u8) -> bool
     ensures { IsTrue result ↔ BeginsBond byte }
 {
@@ -119,7 +119,7 @@ fn begins_bond(byte: u8) -> bool
         || byte == b'\\'
 }
 
-// Whether both have the same steps.
+// True if both have equal steps.
 fn are_same(first: &[Step<BondWord>], second: &[Step<BondWord>]) -> bool
     ensures { result ≡ same_steps first.now second.now }
 {

@@ -105,7 +105,7 @@ fn some_charge_at(bytes: &[u8]) -> (Option<i16>, &[u8])
     }
 }
 
-// The bytes after the class, if one stands there, and the `]`.
+// The bytes after the class, if there is one, and the `]`.
 fn after_end(bytes: &[u8]) -> Option<&[u8]>
     ensures found { IfSome result (λ r. (k : Option (List ℕ)) × IsClass k × (bytes.now ≡ end_text k ++ r.now)) }
     ensures only { (k : Option (List ℕ)) (rest : List ℕ) → IsClass k → bytes.now ≡ end_text k ++ rest
@@ -117,7 +117,7 @@ fn after_end(bytes: &[u8]) -> Option<&[u8]>
     }
 }
 
-// The bytes after the class that the bytes begin with, if they begin with one; none where it has no digit.
+// The bytes after the class that the bytes begin with, if they begin with one; `None` if it has no digit.
 fn after_class(bytes: &[u8]) -> Option<&[u8]>
     ensures found { IfSome result (λ r. (k : Option (List ℕ)) × IsClass k × (bytes.now ≡ class_text k ++ r.now)) }
     ensures only { (k : Option (List ℕ)) (rest : List ℕ) → IsClass k → bytes.now ≡ class_text k ++ 93 ∷ rest

@@ -49,7 +49,7 @@ fn keep_part(alloc: Global, parts: &mut Vec<Vec<u8>>, part: Option<&[u8]>) -> Re
     Ok(())
 }
 
-// How the operand that stands next is joined, and the bytes from it on; none where none does.
+// The joint of the next operand, and the bytes from it on; `None` if no operand follows.
 fn joint_at(bytes: &[u8]) -> Option<(Joint, &[u8])>
     ensures found { IfSome result (λ r. JoinsAt bytes.now r.0 r.1.now) }
     ensures goes { IfSome result (λ r. ¬ EndsInside bytes.now) }

@@ -1,9 +1,9 @@
-//! What stands between the ring numbers, branches and dots of a SMARTS pattern: atoms and bond expressions (Daylight
+//! The pieces of a SMARTS pattern between its ring numbers, branches and dots: atoms and bond expressions (Daylight
 //! Theory Manual, chapter SMARTS).
 //!
 //! Atoms are symbols and brackets, which hold their recursive parts as texts, and bonds are expressions. Both are read
-//! as steps in postfix order, which say what is written and not yet what it means. `smarts_apart` in the proofs is what
-//! the walk asks of a language.
+//! as steps in postfix order, which give the spelling, not yet the meaning. `smarts_apart` in the proofs shows that the
+//! walk can read them.
 #![tactic(auto)]
 
 mod atom;

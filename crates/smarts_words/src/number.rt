@@ -11,8 +11,8 @@ use smiles_words::{digits_at, digits_value};
 // The most signs that a charge has; no text that is read has more.
 const MOST_SIGNS: usize = 4096;
 
-/// The number that the bytes begin with, if they begin with one, and the bytes after it; none where more than three
-/// digits stand there.
+/// The number that the bytes begin with, if they begin with one, and the bytes after it; `None` if it has more than
+/// three digits.
 pub fn number_at(bytes: &[u8]) -> Option<(Option<u16>, &[u8])>
     ensures reads { Takes (λ (digits : List ℕ). digits) (λ digits. (length digits ≤ 3) × AllByRecursion IsDigit digits)
         (λ digits rest. NoDigit rest) number_of bytes.now (option_map (λ r. (r.0, r.1.now)) result) }
@@ -39,8 +39,8 @@ pub fn written_at(bytes: &[u8]) -> Option<(u16, &[u8])>
     }
 }
 
-/// The charge that the bytes begin with, and the bytes after it; none where they begin with no sign, or a digit stands
-/// after several.
+/// The charge that the bytes begin with, and the bytes after it; `None` if they begin with no sign, or a digit follows
+/// several signs.
 pub fn charge_at(bytes: &[u8]) -> Option<(i16, &[u8])>
     ensures { Takes signs_text AreSigns FollowsSigns charge_of bytes.now (option_map (λ r. (r.0, r.1.now)) result) }
 {
@@ -57,7 +57,7 @@ pub fn charge_at(bytes: &[u8]) -> Option<(i16, &[u8])>
     }
 }
 
-/// The bytes after the digits that the bytes begin with, of which there is at least one.
+/// The bytes after the digits that the bytes begin with, at least one.
 pub fn after_digits(bytes: &[u8]) -> Option<&[u8]>
     ensures found { IfSome result (λ rest. (digits : List ℕ) × (1 ≤ length digits) × AllByRecursion IsDigit digits
         × (bytes.now ≡ digits ++ rest.now)) }
@@ -71,7 +71,7 @@ pub fn after_digits(bytes: &[u8]) -> Option<&[u8]>
     Some(rest)
 }
 
-/// How many of the bytes at the front are the sign, and the bytes after these.
+/// The number of bytes at the front that are the sign, and the bytes after these.
 pub fn run_at(bytes: &[u8], sign: u8) -> (usize, &[u8])
     ensures found { bytes.now ≡ replicate result.0 sign ++ result.1.now }
     ensures all { (rest : List ℕ) → result.1.now ≢ sign ∷ rest }
@@ -87,7 +87,7 @@ pub fn run_at(bytes: &[u8], sign: u8) -> (usize, &[u8])
     (count, rest)
 }
 
-// How many signs the bytes begin with, or the number after one.
+// The number of signs that the bytes begin with, or the number after one sign.
 fn amount_at(bytes: &[u8], sign: u8) -> Option<(u16, &[u8])>
     ensures found { IfSome result (λ r. (s : Sign) → sign_byte s ≡ sign → (rest : List ℕ) → bytes.now ≡ sign ∷ rest
         → (x : Signs) × AreSigns x × (bytes.now ≡ signs_text x ++ r.1.now) × FollowsSigns x r.1.now

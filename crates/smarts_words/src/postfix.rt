@@ -10,7 +10,7 @@ ghost use Rattle.smarts_words.specs.State.{Holds, one_operand, ors_ended, lows_e
 use crate::word::Step;
 use std::alloc::{AllocError, Global};
 
-/// How the next operand is joined.
+/// The joint of the next operand.
 #[derive(Clone, Copy, Debug, PartialEq, Eq)]
 pub enum Joint {
     Semicolon,
@@ -18,8 +18,8 @@ pub enum Joint {
     And,
 }
 
-/// The steps so far; `in_and`, `in_or` and `in_low` say whether an operand of the current `&` list, `,` list and `;`
-/// list is there already.
+/// The steps so far. `in_and`, `in_or` and `in_low`: an operand of the current `&` list, `,` list and `;` list is
+/// there.
 #[derive(Drop)]
 pub struct Postfix<P> {
     pub(crate) steps: Vec<Step<P>>,
@@ -40,7 +40,7 @@ pub fn no_steps<P: Copy>(alloc: Global) -> Postfix<P>
     }
 }
 
-/// Reads an operand: a primitive with so many `!` before it.
+/// Reads an operand: a primitive with `bangs` `!` before it.
 pub fn operand<P: Copy>(postfix: &mut Postfix<P>, bangs: usize, prim: P) -> Result<(), AllocError>
     ensures { OnOk result ((lows ors ands : List (List (Step P))) → Holds lows ors ands postfix.old
         → Holds lows ors (ands ++ one_operand bangs prim ∷ []) postfix.new) }
@@ -53,7 +53,7 @@ pub fn operand<P: Copy>(postfix: &mut Postfix<P>, bangs: usize, prim: P) -> Resu
     Ok(())
 }
 
-/// Reads what joins the next operand.
+/// Reads the joint of the next operand.
 pub fn join<P: Copy>(postfix: &mut Postfix<P>, joint: Joint) -> Result<(), AllocError>
     ensures semicolon { OnOk result (joint ≡ joints.Semicolon → (lows ors ands : List (List (Step P)))
         → Holds lows ors ands postfix.old → Holds (lows_ended lows ors ands) [] [] postfix.new) }

@@ -54,7 +54,7 @@ fn plain<'a>(word: AtomWord) -> Found<'a>
     Found { word, part: None }
 }
 
-// The primitive that the bytes begin with, where that is no recursive part.
+// The primitive that the bytes begin with, if it is not a recursive part.
 fn word_at(bytes: &[u8]) -> Option<(AtomWord, &[u8])>
     ensures { Takes prim_text (λ x. IsPrim x × IsWord x) FollowsPrim word_of bytes.now
         (option_map (λ r. (r.0, r.1.now)) result) }
@@ -84,7 +84,7 @@ fn signs_at(bytes: &[u8]) -> Option<(AtomWord, &[u8])>
     Some((AtomWord::Charge(charge), rest))
 }
 
-// The primitive that the bytes begin with, where a letter or `*` is first.
+// The primitive that the bytes begin with, if a letter or `*` is first.
 fn letters_at(bytes: &[u8]) -> Option<(AtomWord, &[u8])>
     ensures { Takes prim_text (λ x. IsPrim x × IsLettered x) FollowsPrim word_of bytes.now
         (option_map (λ r. (r.0, r.1.now)) result) }
@@ -101,7 +101,7 @@ fn letters_at(bytes: &[u8]) -> Option<(AtomWord, &[u8])>
     }
 }
 
-// The primitive of a letter, after which these bytes stand, and the bytes after it.
+// The primitive of a letter that these bytes follow, and the bytes after it.
 fn count_at(letter: Letter, bytes: &[u8]) -> Option<(AtomWord, &[u8])>
     ensures { IsCountAt letter bytes.now (option_map (λ r. (r.0, r.1.now)) result) }
 {
@@ -109,7 +109,7 @@ fn count_at(letter: Letter, bytes: &[u8]) -> Option<(AtomWord, &[u8])>
     Some((AtomWord::Count { letter, number }, rest))
 }
 
-// The bytes up to the `)` that closes what is open before them, and the bytes after it.
+// The bytes up to the `)` that closes the parenthesis before them, and the bytes after it.
 fn part_at(bytes: &[u8]) -> Option<(&[u8], &[u8])>
     ensures found { IfSome result (λ r. IsBalancedIn 0 r.0.now × (bytes.now ≡ r.0.now ++ 41 ∷ r.1.now)) }
     ensures only { (text rest : List ℕ) → IsBalancedIn 0 text → bytes.now ≡ text ++ 41 ∷ rest

@@ -35,7 +35,7 @@ pub fn one_letter(byte: u8) -> Option<AtomWord>
     }
 }
 
-/// What the letter counts that the byte is.
+/// The count that the letter names.
 pub fn letter_of(byte: u8) -> Option<Letter>
     ensures { MatchOption result ((letter : Letter) → letter_byte letter ≢ byte) (λ letter. letter_byte letter ≡ byte) }
 {
@@ -81,7 +81,7 @@ fn pair_element(first: u8, second: u8) -> Option<u8>
     number_of(&[first, second])
 }
 
-// The symbol of one byte that is none of the letters above.
+// The symbol of one byte that is not one of the letters above.
 fn letter_symbol(byte: u8) -> Option<AtomWord>
     requires other { (byte ≢ 42) × (byte ≢ 72) × (byte ≢ 97) × (byte ≢ 65) }
     ensures { MatchOption result ((x : Prim) → IsPrim x → IsBare x → prim_text x ≢ byte ∷ []) (IsSingle byte) }

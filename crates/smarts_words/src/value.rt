@@ -46,7 +46,7 @@ impl PatternAtom {
     }
 }
 
-/// A bond: its expression in postfix order, which is empty where none is written.
+/// A bond: its expression in postfix order, which is empty if it is not written.
 #[derive(Drop)]
 pub struct PatternBond {
     steps: Vec<Step<BondWord>>,

@@ -1,6 +1,6 @@
-//! What is written in atom and bond expressions, before it is given a meaning.
+//! The words of atom and bond expressions, before they have a meaning.
 
-/// What a letter before a number counts at an atom.
+/// The count of an atom that a letter before a number names.
 #[derive(Clone, Copy, Debug, PartialEq, Eq)]
 pub enum Letter {
     /// `D`, neighbours.
@@ -40,9 +40,9 @@ pub enum AtomWord {
     Charge(i16),
     /// A number alone.
     Mass(u16),
-    /// `$(..)`, a recursive part; its text stands apart.
+    /// `$(..)`, a recursive part; its text is kept apart.
     Part,
-    /// `@` and what goes with it: a configuration.
+    /// `@` and its other bytes: a configuration.
     Stereo,
 }
 
@@ -69,7 +69,7 @@ pub enum BondWord {
     Down,
 }
 
-/// A step of an expression in postfix order: a primitive, or an operator on what stands before it.
+/// A step of an expression in postfix order: a primitive, or an operator on the steps before it.
 #[derive(Clone, Copy, Debug, PartialEq, Eq)]
 pub enum Step<P> {
     Prim(P),

@@ -17,7 +17,7 @@ bond_of link = record { a = link.a; b = link.b; kind = link.kind }
 abbrev pub link_ends : List (Link SketchKind) → Ends
 link_ends links = map (λ x. (x.a, x.b)) links
 
--- the branches open at once, the atoms and the bonds are within the limits of what is read
+-- the branches open at once, the atoms and the bonds are within the limits
 pub record HasFewParts (graph : Graph SketchAtom SketchKind) : Type 0 where
   pub depth : graph.depth ≤ MOST_BRANCHES
   pub atoms : length graph.atoms.items ≤ MOST_ATOMS

@@ -1,4 +1,4 @@
--- What is read from a text, and which fault comes first. For callers.
+-- The sketch of a text, and the order of its faults. For callers.
 use Rattle.std.specs.Prelude.{◌⊎◌, ℕ, ◌<◌, ◌≤◌, List, length, Result, Ok, Err}
 use Rattle.chem_core.specs.declared.limits.TheConstants.{MOST_ATOMS, MOST_BONDS, MOST_NEIGHBOURS}
 use Rattle.chem_core.specs.Sketch.{SketchTerm}

@@ -1,5 +1,5 @@
--- The sketch of a tree: its atoms in the order of the text, and the bonds of its graph in the order in which the text
--- completes them, a bond of the chain as its second atom is read, a ring bond as its second number is. For callers.
+-- The sketch of a tree: its atoms in the order of the text, and the bonds of its graph as the text completes them. A
+-- bond of the chain is complete at its second atom, a ring bond at its second number. For callers.
 use Rattle.std.specs.Prelude.{◌≡◌, List, map}
 use Rattle.std.specs.List.{enumerate_from}
 use Rattle.chem_core.specs.declared.sketch.SketchAtom.{SketchAtom}

@@ -7,8 +7,8 @@ use line_walk::Fault;
 use std::alloc::{AllocError, AllocFailed};
 use thiserror::Error;
 
-/// Why a SMILES is refused. A text that breaks several rules has the first fault of this order: a text over 65,536
-/// bytes is `Limit`, then `Syntax`, `Ring`, `Limit` by the number of its parts.
+/// Why a SMILES is refused. A text that breaks several rules has the first fault of this order: `Limit` for over 65,536
+/// bytes, `Syntax`, `Ring`, `Limit` by the number of its parts.
 #[derive(Clone, Copy, Debug, PartialEq, Eq, Error)]
 pub enum SmilesFault {
     /// The text is not in the grammar.

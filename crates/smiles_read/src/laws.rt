@@ -7,7 +7,7 @@ ghost use Rattle.smiles_read.specs.Reading.{IsReading};
 
 use crate::notation::Smiles;
 
-/// A law: whatever sketch a text is read as is sound, and each of its atoms has at most nine hydrogens.
+/// A law: each sketch that is a reading of a text is sound, and each of its atoms has at most nine hydrogens.
 pub fn readings_are_sound()
     ensures sound { (text : List ℕ) (s : SketchTerm) → IsReading text (Ok s) → IsSound s }
     ensures few_hydrogens { (text : List ℕ) (s : SketchTerm) → IsReading text (Ok s)

@@ -1,4 +1,4 @@
-//! The limits of what is read, beside those of every structure.
+//! The limits of a text, beside those of every structure.
 
 ghost use Rattle.std.specs.Prelude.{IsTrue, ◌↔◌};
 ghost use Rattle.smiles_read.specs.Limits.{HasFewParts};
@@ -12,7 +12,7 @@ pub const MOST_BYTES: usize = 65_536;
 /// The most branches that may be open at once.
 pub const MOST_BRANCHES: usize = 256;
 
-/// Whether the branches open at once, the atoms and the bonds are within the limits.
+/// True if the branches open at once, the atoms and the bonds are within the limits.
 pub fn has_few_parts(graph: &Graph<'_, SketchAtom, SketchKind>) -> bool
     ensures { IsTrue result ↔ HasFewParts graph.now }
 {

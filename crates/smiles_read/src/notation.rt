@@ -1,4 +1,4 @@
-//! SMILES as a language of the walk: its atoms, its bond symbols, and which bonds of one ring number agree.
+//! SMILES as a language of the walk: its atoms, its bond symbols, and the agreement of the bonds of one ring number.
 
 ghost use Rattle.smiles_words.specs.Words.{smiles_words};
 ghost use Rattle.smiles_words.proofs.Apart.{smiles_apart};

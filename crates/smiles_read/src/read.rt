@@ -18,11 +18,11 @@ use std::alloc::Global;
 
 /// Reads a SMILES into a sketch (OpenSMILES 1.0, sections 3 and 4; Daylight Theory Manual, chapter SMILES).
 ///
-/// Atoms stand in the order of the text, and bonds in the order in which the text completes them. Chirality marks, atom
-/// classes, and the direction of `/` and `\` are read and dropped; `*` is the atom of number 0. Of several faults the
-/// first of this order is answered: more than 65,536 bytes is `Limit`; a text that is not in the grammar is `Syntax`;
-/// ring numbers that do not pair are `Ring`; and more than 256 branches open at once, 999 atoms, 999 bonds or 12
-/// neighbours of an atom is `Limit`. `NoMemory` may come at any text. `Aromatic` never comes.
+/// Atoms are in the order of the text, and bonds in the order in which the text completes them. Chirality marks, atom
+/// classes, and the direction of `/` and `\` are read and dropped; `*` is the atom of number 0. The first fault of this
+/// order is returned. `Limit`: more than 65,536 bytes. `Syntax`: a text that is not in the grammar. `Ring`: ring
+/// numbers that do not pair. `Limit`: more than 256 branches open at once, 999 atoms, 999 bonds or 12 neighbours of an
+/// atom. `NoMemory` may come at any text. `Aromatic` never comes.
 pub fn read_smiles(alloc: Global, text: &[u8]) -> Result<Sketch, SmilesFault>
     ensures reading { IsReading text.now result }
     ensures sound { IfOk result (λ s. IsSound s) }
@@ -32,7 +32,7 @@ pub fn read_smiles(alloc: Global, text: &[u8]) -> Result<Sketch, SmilesFault>
     read_smiles_in(alloc, &arena, text)
 }
 
-/// The same, with working memory from an arena, for one text after another.
+/// As `read_smiles`, but with working memory from an arena, for one text after another.
 pub fn read_smiles_in(alloc: Global, arena: &Bump, text: &[u8]) -> Result<Sketch, SmilesFault>
     ensures reading { IsReading text.now result }
     ensures sound { IfOk result (λ s. IsSound s) }
@@ -59,7 +59,7 @@ pub fn one_tree()
     line_walk::one_tree::<Smiles>();
 }
 
-/// A law: but for want of memory a text has one reading.
+/// A law: except for want of memory, a text has one reading.
 pub fn one_reading()
     ensures { (text : List ℕ) (a b : Result SketchTerm SmilesFault) → IsReading text a → IsReading text b
         → (a ≡ b) ⊎ (a ≡ Err SmilesFault.NoMemory) ⊎ (b ≡ Err SmilesFault.NoMemory) }

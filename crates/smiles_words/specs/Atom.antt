@@ -1,5 +1,5 @@
--- An atom as it is written (OpenSMILES 1.0, section 3.1), and what it is read as. A text is an atom exactly where some
--- AtomText that is one is spelled so. For callers.
+-- An atom as it is written (OpenSMILES 1.0, section 3.1), and its value. A text is an atom exactly if it spells an
+-- AtomText that is one. For callers.
 use Rattle.std.specs.Prelude.{◌≢◌, ℕ, ◌+◌, ◌*◌, ◌-◌, ◌≤◌, Bool, true, false, List, [], ◌∷◌, ◌++◌, length, replicate, fold, slice_index_or, ℤ, pos, neg_ℤ, Option, None, Some, codes}
 use Rattle.std.specs.List.{AllByRecursion}
 use Rattle.std.specs.Fmt.{decimal}
@@ -48,7 +48,7 @@ lower_number lower_s = 16
 lower_number lower_se = 34
 lower_number lower_as = 33
 
--- it stands without brackets too
+-- it is written without brackets too
 abbrev pub IsOrganicLower : Lower → Type 0
 IsOrganicLower lower_se = ⊥
 IsOrganicLower lower_as = ⊥
@@ -98,7 +98,7 @@ most_of sp = 3
 most_of tb = 20
 most_of oh = 30
 
--- a chirality mark, which is read and dropped: none, `@`, `@@`, or a class and its number
+-- a chirality mark, which is read and dropped: nothing, `@`, `@@`, or a class and its number
 pub data Chiral : Type 0 where
   none : Chiral
   one : Chiral
@@ -115,7 +115,7 @@ abbrev pub IsChiral : Chiral → Type 0
 IsChiral (numbered kind number) = (1 ≤ number) × (number ≤ most_of kind)
 IsChiral _ = Unit {0}
 
--- the count of hydrogens: none, `H`, or `H` with a digit
+-- the count of hydrogens: nothing, `H`, or `H` with a digit
 pub data Hydrogens : Type 0 where
   unwritten : Hydrogens
   single : Hydrogens
@@ -149,7 +149,7 @@ abbrev pub signed : Sign → ℕ → ℤ
 signed plus count = pos count
 signed minus count = neg_ℤ (pos count)
 
--- a charge: none, a run of one sign, or a sign and digits
+-- a charge: nothing, a run of one sign, or a sign and digits
 pub data Charge : Type 0 where
   neutral : Charge
   run : (sign : Sign) → (count : ℕ) → Charge
@@ -172,7 +172,7 @@ IsCharge (run sign count) = (1 ≤ count) × (count ≤ 15)
 IsCharge (amount sign digits) =
     (1 ≤ length digits) × (length digits ≤ 2) × AllByRecursion IsDigit digits × (value_of digits ≤ 15)
 
--- what stands in brackets
+-- the contents of brackets
 pub record Bracket : Type 0 where
   pub isotope : List ℕ
   pub symbol : Symbol
@@ -240,7 +240,7 @@ abbrev pub bare_atom : ℕ → Bool → Fill → SketchAtom
 bare_atom number small fill =
     record { number = number; isotope = 0; charge = pos 0; lower = small; fill = fill; hydrogens = 0; written = 0 }
 
--- what an atom is read as; its place comes with the sketch
+-- the value of an atom; its place comes with the sketch
 abbrev pub atom_of : AtomText → SketchAtom
 atom_of star = bare_atom 0 false fills.Given
 atom_of (organic x) = bare_atom (atomic_number x) false fills.Organic

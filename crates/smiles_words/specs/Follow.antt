@@ -1,4 +1,4 @@
--- What may stand after the pieces of a SMILES, by the first byte: for private clauses and the words.
+-- The bytes that may follow the pieces of a SMILES, by the first byte: for private clauses and the words.
 use Rattle.std.specs.Prelude.{◌≡◌, ◌⊎◌, ℕ, ◌<◌, List, [], ◌∷◌, codes}
 use Rattle.line_walk.specs.Follow.{Begins}
 

@@ -10,7 +10,7 @@ use Rattle.smiles_words.specs.Atom.{IsDigit, value_of, Symbol, symbol_text, IsSy
 abbrev pub IsAny : {X : Type 0} → X → Type 0
 IsAny x = Unit {0}
 
--- what is read and dropped has no value
+-- a piece that is read and dropped has no value
 abbrev pub dropped : {X : Type 0} → X → Unit {0}
 dropped x = tt
 
@@ -39,7 +39,7 @@ IsOrganic (bracket x) = ⊥
 abbrev pub IsUpTo : ℕ → ℕ → Type 0
 IsUpTo most number = (1 ≤ number) × (number ≤ most)
 
--- the count of hydrogens, where one is written
+-- the count of hydrogens, if one is written
 abbrev pub written_hydrogens : Hydrogens → Option ℕ
 written_hydrogens unwritten = None
 written_hydrogens single = Some 1

@@ -1,5 +1,5 @@
--- The words of SMILES (OpenSMILES 1.0, sections 3 and 4): its atoms and bond symbols, what they are read as, and when
--- two bonds of one ring number agree. What is written with them is said in `line_walk`. For callers.
+-- The words of SMILES (OpenSMILES 1.0, sections 3 and 4): its atoms and bond symbols, their values, and the agreement
+-- of two bonds of one ring number. `line_walk` defines the texts that are written with them. For callers.
 use Rattle.std.specs.Prelude.{ℕ, List, [], ◌∷◌, Option, None, Some, codes}
 use Rattle.chem_core.specs.declared.sketch.SketchAtom.{SketchAtom}
 use Rattle.chem_core.specs.declared.sketch.SketchKind.{SketchKind}
@@ -46,7 +46,7 @@ abbrev pub written_kind : Option BondText → SketchKind
 written_kind None = kinds.Unwritten
 written_kind (Some bond) = kind_of bond
 
--- the kind of a ring bond by what is written at its ends: either, or both alike
+-- the kind of a ring bond by the symbols at its ends: either, or both alike
 abbrev pub agreed_kind : SketchKind → SketchKind → Option SketchKind
 agreed_kind kinds.Unwritten kind = Some kind
 agreed_kind kinds.Single kinds.Unwritten = Some kinds.Single

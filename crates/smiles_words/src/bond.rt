@@ -1,4 +1,4 @@
-//! Bond symbols, and which bonds of one ring number agree.
+//! Bond symbols, and the agreement of the bonds of one ring number.
 
 ghost use Rattle.std.specs.Prelude.{◌≡◌, ◌≢◌, ◌∷◌, [], MatchOption, option_map};
 ghost use Rattle.line_walk.specs.Follow.{Reads, AfterBond};
@@ -35,7 +35,7 @@ fn kind_of_byte(byte: u8) -> Option<SketchKind>
     }
 }
 
-/// The kind of a ring bond by what is written at its ends: either, or both alike.
+/// The kind of a ring bond by the symbols at its ends: either, or both alike.
 pub fn agreed(first: SketchKind, second: SketchKind) -> Option<SketchKind>
     ensures { result ≡ agreed_kind first second }
 {

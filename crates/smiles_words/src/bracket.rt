@@ -1,4 +1,4 @@
-//! What stands in brackets (OpenSMILES 1.0, section 3.1).
+//! The contents of brackets (OpenSMILES 1.0, section 3.1).
 
 ghost use Rattle.std.specs.Prelude.{◌≡◌, ◌≢◌, ℕ, ◌<◌, ◌≤◌, List, ◌∷◌, ◌++◌, replicate, IfSome, Some, MatchOption, option_map};
 ghost use Rattle.std.specs.Fmt.{decimal};
@@ -11,20 +11,20 @@ use crate::digit::{digits_at, digits_value, short_number};
 use crate::symbol::symbol_at;
 use chem_core::{Fill, SketchAtom};
 
-// What stands in front in a bracket.
+// The front of a bracket.
 #[derive(Clone, Copy)]
 struct Front {
-    // 0 where none is written.
+    // 0 if it is not written.
     isotope: u16,
     number: u8,
-    // Whether the symbol is written in lower case.
+    // True if the symbol is written in lower case.
     lower: bool,
 }
 
-// What stands at the end of a bracket.
+// The end of a bracket.
 #[derive(Clone, Copy)]
 struct End {
-    // Where a count is written.
+    // `None` if no count is written.
     hydrogens: Option<u8>,
     charge: i8,
 }
@@ -70,8 +70,8 @@ fn front_at(bytes: &[u8]) -> Option<(Front, &[u8])>
     Some((front, rest))
 }
 
-// The bytes after the chirality mark that the bytes begin with, if they begin with one. Returns nothing where its
-// number is out of range.
+// The bytes after the chirality mark that the bytes begin with, if they begin with one. `None` if its number is out of
+// range.
 fn after_chiral(bytes: &[u8]) -> Option<&[u8]>
     ensures { Reads chiral_text IsChiral dropped AfterChiral bytes.now
         (option_map (λ r. (tt, r.now)) result) }
@@ -102,7 +102,7 @@ fn chiral_class_at(bytes: &[u8]) -> Option<(u8, &[u8])>
     }
 }
 
-// The bytes after the number that they begin with, where that is 1 to `most`, with no 0 in front.
+// The bytes after the number that they begin with, if that is 1 to `most`, without a leading 0.
 fn after_number(bytes: &[u8], most: u8) -> Option<&[u8]>
     requires { most ≤ 99 }
     ensures { Reads decimal (IsUpTo most) dropped NoDigitFirst bytes.now
@@ -143,8 +143,7 @@ fn hydrogens_at(bytes: &[u8]) -> (Option<u8>, &[u8])
     }
 }
 
-// The charge that the bytes begin with, 0 if they begin with none, and the bytes after it. Returns nothing where it is
-// out of range.
+// The charge that the bytes begin with, 0 without one, and the bytes after it. `None` if it is out of range.
 fn charge_at(bytes: &[u8]) -> Option<(i8, &[u8])>
     ensures { Reads charge_text IsCharge charge_value AfterCharge bytes.now
         (option_map (λ r. (r.0, r.1.now)) result) }
@@ -162,8 +161,7 @@ fn charge_at(bytes: &[u8]) -> Option<(i8, &[u8])>
     }
 }
 
-// The amount of a charge whose first sign stands before the bytes: digits, or more of that sign. Then the bytes after
-// it.
+// The amount of a charge whose first sign precedes the bytes: digits, or more of that sign. Then the bytes after it.
 fn amount_at(bytes: &[u8], sign: u8) -> Option<(u8, &[u8])>
     ensures reads { (s : Sign) → sign_byte s ≡ sign → Reads charge_text IsCharge charge_value AfterCharge
         (sign ∷ bytes.now) (option_map (λ r. (signed s r.0, r.1.now)) result) }
@@ -205,7 +203,7 @@ fn run_at(bytes: &[u8], sign: u8) -> (u8, &[u8])
     (count, rest)
 }
 
-// The bytes after the class that the bytes begin with, if they begin with one. Returns nothing where it has no digit.
+// The bytes after the class that the bytes begin with, if they begin with one. `None` if it has no digit.
 fn after_class(bytes: &[u8]) -> Option<&[u8]>
     ensures { Reads class_text IsClass dropped AfterClass bytes.now
         (option_map (λ r. (tt, r.now)) result) }

@@ -1,4 +1,4 @@
-//! Runs of digits.
+//! Runs of digits, of SMILES and of SMARTS.
 
 ghost use Rattle.std.specs.Prelude.{◌≡◌, ℕ, ◌≤◌, ◌++◌, ◌↔◌, IsTrue, IfSome, Some, length};
 ghost use Rattle.std.specs.List.{AllByRecursion};
@@ -20,14 +20,14 @@ pub fn digits_at(bytes: &[u8]) -> (&[u8], &[u8])
     (bytes, &[])
 }
 
-/// Whether the byte is a digit.
+/// True if the byte is a digit.
 pub fn is_digit(byte: u8) -> bool
     ensures { IsTrue result ↔ IsDigit byte }
 {
     byte >= b'0' && byte <= b'9'
 }
 
-/// The number that at most three digits spell; 0 where there are none.
+/// The number that at most three digits spell; 0 if there are none.
 pub fn digits_value(digits: &[u8]) -> u16
     requires few { length digits.now ≤ 3 }
     requires digits { AllByRecursion IsDigit digits.now }
@@ -45,7 +45,7 @@ pub fn digits_value(digits: &[u8]) -> u16
     }
 }
 
-/// The number of at most two digits that the digits spell; nothing where there are more, or a 0 stands in front.
+/// The number that one or two digits spell; `None` for no digits, for more, and for a 0 before another digit.
 pub fn short_number(digits: &[u8]) -> Option<u8>
     requires { AllByRecursion IsDigit digits.now }
     ensures found { IfSome result (λ n. (n ≤ 99) × (digits.now ≡ decimal n)) }

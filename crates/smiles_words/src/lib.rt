@@ -1,8 +1,8 @@
-//! What SMILES is written with: its atoms and bond symbols, their readers, and when the bonds of two ring numbers agree
+//! The words of SMILES: its atoms and bond symbols, their readers, and when the bonds of two ring numbers agree
 //! (OpenSMILES 1.0).
 //!
 //! Digits and symbols of one letter are read alike in SMARTS, so their readers are public. `smiles_apart` in the proofs
-//! is what the walk asks of a language.
+//! shows that the walk can read the language.
 #![tactic(auto)]
 
 mod atom;

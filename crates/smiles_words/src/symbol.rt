@@ -1,4 +1,4 @@
-//! Symbols in brackets, and those in lower case that stand without.
+//! Symbols in brackets, and those in lower case that are also written without, as the one-letter ones of SMARTS are.
 
 ghost use Rattle.std.specs.Prelude.{◌≡◌, ◌≢◌, ℕ, List, ◌∷◌, [], ◌≤◌, IfSome, IfNone, Some, MatchOption, slice_get, option_map};
 ghost use Rattle.chem_core.specs.Element.{symbols};

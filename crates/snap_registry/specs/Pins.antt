@@ -1,4 +1,4 @@
--- Pins in their slots: for callers, and for what a registry keeps of its arrays.
+-- Pins in their slots: for callers, and for the arrays of a registry.
 use Rattle.std.specs.Prelude.{◌≢◌, ◌==◌, All, Bool, List, [], ◌∷◌, not, ℕ}
 use Rattle.std.specs.List.{range_with_len}
 use Rattle.std.specs.List.Sorted.{IsPermutation}

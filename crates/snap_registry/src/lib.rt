@@ -1,7 +1,7 @@
-//! Which versions of a store are pinned: at most 64 pins, each with a slot of its own. A registry is the list of its
-//! pins, oldest first, and takes no memory.
+//! The pinned versions of a store: at most 64 pins (read snapshots), each with a slot of its own. A registry is the
+//! list of its pins, oldest first, and takes no memory.
 //!
-//! The slots stand in one array, those of the pins first and the free ones behind them, so a free slot is at hand.
+//! The slots are in one array, those of the pins first and the free ones after them, so a free slot is at hand.
 #![tactic(auto)]
 
 ghost use Rattle.std.specs.Prelude.{◌≡◌, ◌<◌, ◌≤◌, [], ◌∷◌, ◌++◌, Contains, MatchOption, filter, length, map, slice_index};
@@ -55,7 +55,7 @@ impl Registry {
         }
     }
 
-    /// Pins a version, in some free slot. `None` exactly where 64 pins are held; then nothing changes.
+    /// Pins a version, in some free slot. `None` exactly if 64 pins are held; then nothing changes.
     pub fn pin(&mut self, version: u32) -> Option<Pin>
         ensures pinned { MatchOption result (self.new ≡ self.old) (λ p. (p.version ≡ version)
             × (self.new ≡ self.old ++ p ∷ [])) }
@@ -91,7 +91,7 @@ impl Registry {
     }
 }
 
-// Where a slot stands.
+// The place of a slot.
 fn place_of(slot: u32, slots: &[u32]) -> usize
     requires { Contains slots.now slot }
     ensures within { result < length slots.now }

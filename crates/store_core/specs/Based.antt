@@ -1,10 +1,10 @@
--- A store that was given what each identifier was at a version, and nothing else. For callers.
+-- A store that was given the status of each identifier at a version, and nothing else. For callers.
 use Rattle.std.specs.Prelude.{◌++◌, ◌<◌, All, List, [], ◌∷◌, map, ℕ}
 use Rattle.store_machine.specs.History.{made_at}
 use Rattle.store_machine.specs.declared.machine.Status.{Status}
 use Rattle.store_core.specs.Stored.{Served, StandsFor, StoreTerm}
 
--- what it then stands for: a base without commits, each entry of which it keeps
+-- the state that it then represents: a base without commits, each entry of which it keeps
 abbrev pub based : ℕ → List (ℕ × Status) → Served
 based version base = record {
   history = record

@@ -9,7 +9,7 @@ use Rattle.store_machine.specs.declared.machine.State.{State}
 use Rattle.store_core.specs.Calls.{Calls}
 use Rattle.store_core.specs.Stored.{IsAt, IsServing, StoreTerm, Stretches}
 
--- calls that change no more than pins. What a prune leaves turns on the version of a copy too
+-- calls that change no more than pins. The entries that a prune leaves depend on the version of a copy too
 abbrev pub IsOfMemory : Event → Type 0
 IsOfMemory Pin = Unit {0}
 IsOfMemory (Fetch slot want from limit) = Unit {0}
@@ -28,7 +28,7 @@ pub record StepBeside (new : StoreTerm) (s : State) (e : Event) (r : Reply) : Ty
   pub gives : Gives s owner e r (repinned s pins)
   pub serving : IsServing new (repinned s pins)
 
--- what is such a call of the store alone is one at every state that it serves
+-- such a call of the store alone is one at every state that it serves
 abbrev pub CallsServe : Type 0
 CallsServe = (old new : StoreTerm) (e : Event) (r : Reply) → IsOfMemory e
     → ((s : State) → IsAt old s → Calls Stretches (λ _. true) old new s ((e, r) ∷ []))

@@ -1,4 +1,4 @@
--- What one call tells its caller.
+-- The results of one call for its caller.
 use Rattle.std.specs.Prelude.{◌≡◌, ◌↔◌, ◌≤◌, Bool, Err, false, IfSome, IsSomeAnd, List, None, Ok, Option, Result, Some, true, ℕ}
 use Rattle.snap_registry.specs.declared.Pin.{Pin}
 use Rattle.store_machine.specs.Runs.{calls_of}
@@ -57,11 +57,11 @@ abbrev pub IsReturned : Result (Unit {0}) CallFault → Pin → ℕ → Type 0
 IsReturned (Ok _) pin slot = pin.slot ≡ slot
 IsReturned (Err fault) pin slot = ⊥
 
--- the same pins are held
+-- the held pins are as before
 abbrev pub SameHeld : (ℕ → ℕ → Type 0) → (ℕ → ℕ → Type 0) → Type 0
 SameHeld old new = (slot version : ℕ) → new slot version ↔ old slot version
 
--- where a bound was told, one that is no greater is told
+-- if a bound was known, one that is no greater is known
 abbrev pub NotAbove : Option ℕ → Option ℕ → Type 0
 NotAbove old new = IfSome old (λ n. IsSomeAnd new (λ m. m ≤ n))
 

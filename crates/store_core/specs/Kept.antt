@@ -20,7 +20,7 @@ Kept = Versioned (Option Shared)
 abbrev pub Chains : Type 0
 Chains = List (ℕ × Row (Option Shared))
 
--- the state as the machine knows it
+-- the status as the machine knows it
 abbrev pub status_in : ℕ → Option Shared → Status
 status_in version None = Withdrawn version
 status_in version (Some r) = Live version (arc_value r).format (arc_value r).text
@@ -33,12 +33,12 @@ abbrev pub IsEntryOf : ℕ → Option Shared → Type 0
 IsEntryOf id None = Unit {0}
 IsEntryOf id (Some r) = IsRecord (arc_value r) × ((arc_value r).id ≡ id)
 
--- what contracts see of them: the entries by identifiers, and the record that memory was taken for
+-- the view of the kept entries: the entries by identifiers, and the record that memory was taken for
 pub record KeptTerm : Type 0 where
   pub chains : Chains
   pub reserved : Option RecordTerm
 
--- what was found of an identifier
+-- the entry that was found of an identifier
 abbrev pub kept_of : Option (ℕ × Bor (Option Shared)) → Option Kept
 kept_of None = None
 kept_of (Some r) = Some (record { version = r.0; value = r.1.now })
@@ -48,17 +48,17 @@ abbrev pub record_of : Option Kept → Option Shared
 record_of None = None
 record_of (Some k) = k.value
 
--- it has a record, whose print has each bit that is wanted
+-- it has a record, whose print has each wanted bit
 abbrev pub HasPrint : List Bool → Option Shared → Type 0
 HasPrint want None = ⊥
 HasPrint want (Some r) = (bit : ℕ) → HasBit want bit → HasBit (arc_value r).print bit
 
--- there is memory for one entry more of an identifier, with this record, where it has one
+-- there is memory for one more entry of an identifier, with this record, if it has one
 pub record HasRoom (id : ℕ) (own : Option Shared) (kept : KeptTerm) : Type 0 where
   pub chain : IsReserved id kept.chains
   pub record_is : IfSome own (λ r. kept.reserved ≡ Some (arc_value r))
 
--- the least identifier from one on that has an entry with such a print; none where none has
+-- the least identifier from `from` on that has an entry with such a print; `None` if no identifier has one
 abbrev pub IsNextId : List Bool → ℕ → Chains → Option ℕ → Type 0
 IsNextId want from chains None = (id : ℕ) (k : Kept) → from ≤ id → Contains (chain_of chains id) k
     → ¬ HasPrint want k.value
@@ -73,12 +73,13 @@ pub record IsOf (chains : Chains) (x : Screened Shared) : Type 0 where
   pub value : arc_value x.value ≡ arc_value own
   pub until : (k : Kept) → Contains (chain_of chains x.id) k → x.version < k.version → x.until ≤ k.version
 
--- an entry whose print has each bit that is wanted
+-- an entry whose print has each wanted bit
 pub record IsCandidate (want : List Bool) (chains : Chains) (x : Screened Shared) : Type 0 where
   pub of_entry : IsOf chains x
   pub print : HasPrint want (Some x.value)
 
--- a record is found of an identifier at a version exactly where the latest entry has one with such a print, which it is
+-- a record is found of an identifier at a version exactly if the record of the latest entry has such a print, and it is
+-- that record
 pub record IsFoundAt (version : ℕ) (want : List Bool) (ks : List Kept) (found : Option Shared) : Type 0 where
   pub latest : Option Kept
   pub is_latest : IsLatest version ks latest

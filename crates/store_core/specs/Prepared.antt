@@ -12,7 +12,7 @@ use Rattle.store_core.specs.declared.words.Change.{Change as Asked}
 use Rattle.store_core.specs.declared.words.CommitFault.{CommitFault}
 use Rattle.store_core.specs.declared.words.CommitFault.TheVariants as commit
 
--- why a change is not committed, by the state: want of memory may come at any
+-- why a change is not committed, by the state; want of memory may come at any state
 abbrev pub IsWhy : State → Change → CommitFault → Type 0
 IsWhy s c commit.Known = refusal (now s) c ≡ Some reply.Known
 IsWhy s c commit.Absent = refusal (now s) c ≡ Some reply.Absent

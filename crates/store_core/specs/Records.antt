@@ -25,7 +25,7 @@ pub record IsRecord (r : RecordTerm) : Type 0 where
   pub molecule : IsMolecule r.mol
   pub print : IsPrintOf r.mol r.print
 
--- a print has its length, and so many bits are set in it
+-- a print has its length, and `bits` bits are set in it
 pub record HasBits (print : List Bool) (bits : ℕ) : Type 0 where
   pub length_is : length print ≡ 1024
   pub bits_are : bits ≡ set_bits print
@@ -41,7 +41,7 @@ found_of r = record { id = r.id; format = r.format; text = r.text }
 abbrev pub founds : List Shared → List Found
 founds records = map (λ r. found_of (arc_value r)) records
 
--- its records, and for how many there is room
+-- its records, and the number that there is room for
 pub record PageTerm : Type 0 where
   pub records : List Shared
   pub room : ℕ

@@ -1,4 +1,4 @@
--- Answers of calls as events and replies of the machine: none at Worn.
+-- Answers of calls as events and replies of the machine: no event for `Worn`.
 use Rattle.std.specs.Prelude.{◌≡◌, ◌+◌, ◌≤◌, Bool, Err, List, [], ◌∷◌, None, Ok, Option, Result, Some, ℕ}
 use Rattle.std.specs.Arc.{arc_value}
 use Rattle.snap_registry.specs.declared.Pin.{Pin}
@@ -42,7 +42,7 @@ commit_calls c (Err (commit.DiskFault doubt)) = (event.Commit (change_of c), rep
 commit_calls c (Err commit.Worn) = []
 commit_calls c (Err commit.NoMemory) = (event.Commit (change_of c), reply.NoMemory) ∷ []
 
--- its record is one
+-- its record is sound
 abbrev pub IsSoundChange : Asked → Type 0
 IsSoundChange (asked.Register r) = IsRecord (arc_value r)
 IsSoundChange (asked.Revise r) = IsRecord (arc_value r)
@@ -54,7 +54,7 @@ left_by (asked.Register r) = Some r
 left_by (asked.Revise r) = Some r
 left_by (asked.Withdraw id) = None
 
--- why it is refused, by what its identifier is
+-- why it is refused, by the status of its identifier
 abbrev pub refusal_by : Option Status → Asked → Option Reply
 refusal_by now (asked.Register r) = unless_none now
 refusal_by now (asked.Revise r) = unless_live now
@@ -86,7 +86,7 @@ compact_calls (Err (fault.DiskFault doubt)) = (event.Compact, reply.DiskFault do
 compact_calls (Err fault.Worn) = []
 compact_calls (Err fault.NoMemory) = (event.Compact, reply.NoMemory) ∷ []
 
--- of every other call, by its reply where it has an answer
+-- of every other call, by its reply if it has an answer
 abbrev pub calls : {X : Type 0} → Event → (X → Reply) → Result X CallFault → List (Event × Reply)
 calls e of (Ok x) = (e, of x) ∷ []
 calls e of (Err call.Worn) = []

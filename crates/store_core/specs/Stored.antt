@@ -1,4 +1,4 @@
--- What a store in memory stands for, and its stretches: those of its callers' steps alone.
+-- The part of a state that a store in memory represents, and its stretches: those of its callers' steps alone.
 use Rattle.std.specs.Prelude.{◌≡◌, ◌+◌, ◌≤◌, ◌++◌, Contains, count_by, List, [], length, map, None, not, refl, Some, true, ℕ}
 use Rattle.std.specs.FinMap.{entries, get}
 use Rattle.snap_registry.specs.declared.Pin.{Pin}
@@ -62,7 +62,7 @@ pub record IsChain (s : Served) (id : ℕ) (ks : List Kept) : Type 0 where
 abbrev pub pin_of : Held → Pin
 pin_of p = record { slot = p.slot; version = p.version }
 
--- the store stands for this part of a state; whose the pins are is free
+-- the store represents this part of a state, whoever owns the pins
 pub record StandsFor (store : StoreTerm) (s : Served) : Type 0 where
   pub sound : IsSound (alone s)
   pub version : store.version ≡ head s.history
@@ -80,14 +80,14 @@ pub record StandsFor (store : StoreTerm) (s : Served) : Type 0 where
 abbrev pub IsStore : StoreTerm → Type 0
 IsStore store = (s : Served) × StandsFor store s
 
--- The store serves its part of a state. What the state has of disks is free.
+-- The store serves its part of a state. The state's disks are free.
 pub record IsServing (store : StoreTerm) (s : State) : Type 0 where
   pub sound : IsSound s
   pub serves : s.serves ≡ true
   pub stands : StandsFor store (served s)
 
--- The store alone is at a state, which serves. No copy runs and none's finish is in doubt. A store in memory has no disk
--- to compact, so no generation is left.
+-- The store alone is at a state, which serves. No copy runs, and no finish of one is in doubt. A store in memory has no
+-- disk to compact, so no generation is left.
 pub record IsAt (store : StoreTerm) (s : State) : Type 0 where
   pub sound : IsSound s
   pub serves : s.serves ≡ true
@@ -96,7 +96,7 @@ pub record IsAt (store : StoreTerm) (s : State) : Type 0 where
   pub generation : s.generation ≡ LAST_GENERATION
   pub stands : StandsFor store (served s)
 
--- it is so too at a state with other owners
+-- as `StandsFor` and `IsAt`, at a state with other owners
 abbrev pub AsksNoOwner : Type 0
 AsksNoOwner = (store : StoreTerm) (s t : State) → SameButOwners s t
     → (StandsFor store (served s) → StandsFor store (served t)) × (IsAt store s → IsAt store t)

@@ -4,7 +4,7 @@ use Rattle.std.specs.Arc.{arc_value}
 use Rattle.std.specs.Borrow.{Bor}
 use Rattle.store_core.specs.Records.{RecordTerm, Shared}
 
--- those that are there
+-- the records that are present
 abbrev pub present : List (Option (Bor Shared)) → List Shared
 present [] = []
 present (None ∷ rs) = present rs

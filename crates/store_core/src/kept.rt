@@ -1,4 +1,4 @@
-//! The kept entries of a store, and an index of the prints and records of those that have one.
+//! The kept entries of a store, and an index of the prints and records of those that have a record.
 ghost use Rattle.std.specs.Prelude.{◌≡◌, ◌==◌, ◌+◌, ◌^◌, ◌++◌, ◌<◌, ◌≤◌, ◌↔◌, ℕ, [], ◌∷◌, All, Contains, IfSome, List, OnOk, filter, if◌then◌else◌, length, option_copied, option_map};
 ghost use Rattle.record_versions.specs.Entries.{IsLatest, IsLeastId, IsRead, chain_of, entries, is_other};
 ghost use Rattle.store_machine.specs.declared.machine.Entry.{Entry};
@@ -15,17 +15,17 @@ use std::marker::{Brand, Model};
 use std::sync::Arc;
 use std::sync::ledger::{Blank, Ledger};
 
-/// An entry whose print holds what is wanted, with its record and the version before which it is known to be its
+/// An entry whose print holds the wanted bits, with its record and the version before which it is known to be its
 /// identifier's latest.
 pub type Candidate = Screened<Counted<Arc<Record>>>;
 
-/// What looks at entries. Contracts see all of them.
+/// A finder of entries. Contracts see all of them.
 pub type EntryFinder<'a> = Finder<'a, Option<Arc<Record>>>;
 
 // Places of entries that have left the chains, in ascending order.
 type Gone = ArrayVec<(u32, u32), 256>;
 
-// Records that are let go at once.
+// Records that are dropped together.
 type Leaving = ArrayVec<Option<Arc<Record>>, 32>;
 
 /// Entries by identifier and version, each with the record that its commit left, if it left one. Contracts see the
@@ -50,7 +50,7 @@ impl Model for KeptEntries {
 }
 
 impl KeptEntries {
-    /// Without entries. It takes no memory.
+    /// No entries. It takes no memory.
     pub fn new(alloc: Global) -> KeptEntries
         ensures { result.chains ≡ [] }
     {
@@ -60,7 +60,7 @@ impl KeptEntries {
         }
     }
 
-    /// Takes the memory of one entry more of an identifier, with this record, where it has one.
+    /// Takes the memory of one more entry of an identifier, with this record, if it has one.
     pub fn reserve(&mut self, id: u32, entry: Option<&Arc<Record>>) -> Result<(), AllocError>
         ensures ok { OnOk result (HasRoom id (option_copied entry.entry) self.new) }
         ensures entries { entries self.new.chains ≡ entries self.old.chains }
@@ -75,7 +75,7 @@ impl KeptEntries {
         }
     }
 
-    /// One entry more, whose version exceeds the identifier's others. It takes no memory.
+    /// Adds an entry, whose version exceeds the identifier's others. It takes no memory.
     pub fn add(&mut self, id: u32, version: u32, entry: Option<Arc<Record>>)
         requires room { HasRoom id entry self.old }
         requires later { All (λ k. k.version < version) (chain_of self.old.chains id) }
@@ -92,7 +92,7 @@ impl KeptEntries {
         self.chains.add(id, version, entry);
     }
 
-    /// What looks at one identifier after another, from one on.
+    /// A finder for one identifier after another, from `id` on.
     pub fn finder(&self, id: u32) -> EntryFinder<'_>
         ensures { result ≡ self.now.chains }
     {
@@ -106,8 +106,8 @@ impl KeptEntries {
         latest_of(&self.chains, id, version)
     }
 
-    /// The least identifier from `from` on that has an entry whose print holds what is wanted, whatever the hint says,
-    /// with the first such entry.
+    /// The least identifier from `from` on that has an entry whose print holds the wanted bits, with the first such
+    /// entry. The answer does not depend on the hint.
     pub fn next(&self, want: &Want<'_>, from: u32, hint: &mut Hint) -> Option<&Candidate>
         ensures id { IsNextId want.now from self.now.chains (option_map (λ x. x.id) (option_copied result)) }
         ensures entry { IfSome (option_copied result) (IsCandidate want.now self.now.chains) }
@@ -122,8 +122,8 @@ impl KeptEntries {
         self.chains.next_id(from)
     }
 
-    /// Takes out each entry that is its identifier's latest at none of some versions, and returns how many. It takes no
-    /// memory.
+    /// Removes each entry that is its identifier's latest at none of the versions `live`, and returns the number of
+    /// entries removed. It takes no memory.
     pub fn prune(&mut self, live: &[u32]) -> u32
         ensures left { (id : ℕ) (k : Kept) → Contains (chain_of self.new.chains id) k
             ↔ (Contains (chain_of self.old.chains id) k × IsRead live.now (chain_of self.old.chains id) k) }
@@ -135,7 +135,7 @@ impl KeptEntries {
         before - self.chains.kept()
     }
 
-    /// How many entries there are. It takes no memory.
+    /// The number of entries. It takes no memory.
     pub fn count(&self) -> u32
         ensures { result ≡ length (entries self.now.chains) }
     {
@@ -143,8 +143,8 @@ impl KeptEntries {
     }
 }
 
-/// The record of a candidate's identifier at a version, where its print holds what is wanted. The chain is looked at
-/// only where a later entry may be the latest. It takes one step.
+/// The record of a candidate's identifier at a version, if its print holds the wanted bits. The chain is read only if a
+/// later entry may be the latest. It takes one step.
 pub fn record_at<'a, L: Ledger>(
     candidate: &'a Candidate,
     finder: &mut EntryFinder<'a>,
@@ -193,7 +193,7 @@ fn latest_by<L: Ledger>(
     chains.at(id, version, &mut Steps::<L>::open(blank))
 }
 
-// The pair of an identifier's latest entry is the latest before a version alone.
+// Notes that the pair of an identifier's latest entry is the latest before a version alone.
 fn supersede(
     index: &mut ScreenIndex<Counted<Arc<Record>>>,
     chains: &Chains<Option<Arc<Record>>>,
@@ -211,7 +211,8 @@ fn supersede(
     }
 }
 
-// Takes the entries that are not read at some versions out of the chains, and their prints out of the index.
+// Removes from the chains the entries that are not read at the versions `live`, and their prints from the index. It
+// goes on from the last one: removing an entry leaves each other dead or alive, as before.
 fn prune(
     chains: &mut Chains<Option<Arc<Record>>>,
     index: &mut ScreenIndex<Counted<Arc<Record>>>,
@@ -237,7 +238,7 @@ fn prune(
     index.drop_all(gone.as_slice());
 }
 
-// Takes an entry out of the chains, and gives its record.
+// Removes an entry from the chains, and returns its record.
 fn take(chains: &mut Chains<Option<Arc<Record>>>, id: u32, version: u32) -> Option<Arc<Record>>
     requires { HasEntry chains.old (record { id = id; version = version }) }
     ensures chains { (q : ℕ) → chain_of chains.new q
@@ -250,7 +251,7 @@ fn take(chains: &mut Chains<Option<Arc<Record>>>, id: u32, version: u32) -> Opti
     entry
 }
 
-// Lets a record go, at once with others, how often each of which is shared is read first, as for a page.
+// Drops a record, together with others. The share count of each is read first, as for a page.
 fn let_go(leaving: &mut Leaving, entry: Option<Arc<Record>>) {
     if !leaving.is_full() {
         leaving.push(entry);
@@ -265,7 +266,7 @@ fn let_go(leaving: &mut Leaving, entry: Option<Arc<Record>>) {
     leaving.push(entry);
 }
 
-// Of an entry: its identifier and version.
+// The place of an entry: its identifier and version.
 fn place(id: u32, version: u32) -> (u32, u32)
     ensures id { result.0 ≡ id }
     ensures version { result.1 ≡ version }
@@ -274,8 +275,8 @@ fn place(id: u32, version: u32) -> (u32, u32)
     (id, version)
 }
 
-// Puts the place of an entry behind those whose prints are still in the index, and takes these prints out first where
-// there is no room.
+// Appends the place of an entry to those whose prints are still in the index. If there is no room, these prints are
+// removed first.
 fn leave(index: &mut ScreenIndex<Counted<Arc<Record>>>, gone: &mut Gone, place: (u32, u32))
     requires rises { Rises gone.old.items }
     requires last { All (λ p. rank p.0 p.1 ≤ rank place.0 place.1) gone.old.items }

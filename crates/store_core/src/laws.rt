@@ -1,4 +1,4 @@
-//! The laws of the machine on which the store's proofs stand, and those of stores.
+//! The laws of the machine that the store's proofs use, and those of stores.
 ghost use Rattle.store_machine.specs.Laws.{CommitsChange, KeptIsRead, RunsStaySound, SnapshotsStay, StatesStay};
 ghost use Rattle.store_core.specs.Beside.{CallsServe};
 ghost use Rattle.store_core.specs.Copied.{KeepsCopied, KeepsUsed};
@@ -8,7 +8,7 @@ use store_machine::{
     commits_change, kept_is_read, owners_are_free, runs_stay_sound, snapshots_stay, states_stay,
 };
 
-/// They take no time.
+/// The laws of the machine. They take no time.
 pub(crate) fn laws()
     ensures commits { CommitsChange }
     ensures read { KeptIsRead }
@@ -23,15 +23,15 @@ pub(crate) fn laws()
     states_stay();
 }
 
-/// A pin, a fetch, an unpin, a look and the counts of a store alone are the same steps at every state that it serves: a
-/// copy may run there, and a commit or a finish be in doubt, and what the state has of disks stays.
+/// A pin, a fetch, an unpin, a look and the counts of a store alone are the same steps at every state that it serves. A
+/// copy may run there, and a commit or a finish be in doubt. The state's disks stay as they are.
 pub fn calls_serve_any_disks()
     ensures { CallsServe }
 {
     runs_stay_sound();
 }
 
-/// Whose the pins are makes no difference: a store stands for a state as for one with other owners.
+/// The owners of pins make no difference: a store represents a state as it represents one with other owners.
 pub fn stores_ask_no_owner()
     ensures { AsksNoOwner }
 {

@@ -1,4 +1,4 @@
-//! A store of structures: what a caller may ask of a service, and the store in memory that answers.
+//! A store of structures: the calls of a service, and the store in memory that answers them.
 //!
 //! A service is the machine of `store_machine` as one caller sees it: each call is a step of one run, in which others
 //! may have steps too. A session over any service is then proved once.

@@ -10,7 +10,7 @@ use std::sync::Arc;
 /// The most records that a page has.
 pub const MOST_RECORDS: u32 = 256;
 
-/// Records by identifier, ascending. Contracts see the list of them, and for how many there is room.
+/// Records by identifier, ascending. Contracts see the list of them, and the number that there is room for.
 #[derive(Drop)]
 pub struct Page {
     records: Vec<Arc<Record>>,
@@ -26,7 +26,7 @@ impl Model for Page {
 }
 
 impl Page {
-    /// Room for as many records as a page may have, none of them there yet.
+    /// A page without records, with room for `limit`.
     pub fn reserve(alloc: Global, limit: u32) -> Result<Page, AllocError>
         requires some { 1 ≤ limit }
         requires few { limit ≤ MOST_RECORDS }
@@ -43,7 +43,7 @@ impl Page {
         self.records.as_slice()
     }
 
-    /// Without records. The room stays.
+    /// Removes all records. The room stays.
     pub fn clear(&mut self)
         ensures empty { self.new.records ≡ [] }
         ensures room { self.new.room ≡ self.old.room }
@@ -51,7 +51,7 @@ impl Page {
         self.records.clear();
     }
 
-    // One record more.
+    // Adds a record.
     pub(crate) fn push(&mut self, entry: Arc<Record>)
         requires { length self.old.records < self.old.room }
         ensures records { self.new.records ≡ self.old.records ++ entry ∷ [] }

@@ -17,17 +17,17 @@ use std::alloc::Global;
 use std::marker::Model;
 use std::sync::Arc;
 
-// How long a text may be to lie in the record, without a block of memory of its own: most SMILES texts of drug-like
+// The longest text that lies in the record, without a block of memory of its own: most SMILES texts of drug-like
 // structures are no longer.
 const SHORT: usize = 64;
 
 /// A text that has a structure, under an identifier of 1 to 999,999,999. It is shared, never copied.
 #[derive(Drop)]
 pub struct Record {
-    // Its structure lies beside the count that a page raises, and its text behind what searches read.
+    // Its structure lies beside the count that a page raises, and its text after the fields that searches read.
     id: u32,
     format: Format,
-    // how many bits are set in the print
+    // the number of bits that are set in the print
     bits: u16,
     mol: Mol,
     print: Print,
@@ -46,7 +46,7 @@ impl Model for Record {
         × HasBits r.print r.bits };
 }
 
-/// What makes records of one text after another, with working memory that is kept from one to the next.
+/// Makes records of one text after another, with working memory that is kept from one to the next.
 #[derive(Drop)]
 pub struct Recorder {
     alloc: Global,
@@ -104,7 +104,7 @@ impl Record {
         &self.print
     }
 
-    /// How many bits are set in its print. They were counted when it was made.
+    /// The number of bits that are set in its print. They were counted when it was made.
     pub fn bits(&self) -> u32
         ensures bits { result ≡ set_bits self.now.print }
         ensures few { result ≤ 1024 }
@@ -150,7 +150,7 @@ impl Recorder {
         }
     }
 
-    // Makes the working memory free for the next text.
+    // Frees the working memory for the next text.
     fn free(&mut self) {
         if self.arena.reset().is_err() {
             self.arena = Bump::new(self.alloc);
@@ -158,7 +158,7 @@ impl Recorder {
     }
 }
 
-// The print of a structure, which is within the limits of one.
+// The print of a structure within the limits.
 fn print_of(mol: &Mol) -> Print
     ensures print { IsPrintOf mol.now result }
     ensures molecule { IsMolecule mol.now }
@@ -167,7 +167,7 @@ fn print_of(mol: &Mol) -> Print
     print(mol)
 }
 
-// How many bits are set in a print.
+// The number of bits that are set in a print.
 fn bits_of(print: &Print) -> u16
     ensures { HasBits print.now result }
 {

@@ -1,4 +1,4 @@
-//! What a store is for its callers.
+//! A store as its callers see it.
 ghost use Rattle.std.specs.Prelude.{◌≡◌, ◌⊎◌, ◌↔◌, ◌≤◌, ◌++◌, All, Bool, IfOk, List, [], OnErr, Option, length, ℕ};
 ghost use Rattle.std.specs.Arc.{arc_value};
 ghost use Rattle.store_machine.specs.History.{IsId};
@@ -17,7 +17,7 @@ use snap_registry::Pin;
 use std::sync::ledger::Ledger;
 
 /// The machine as one caller sees it. Each call is a step of one run, in which others may have steps too; a call that
-/// is answered `Worn` is none. No call but `commit`, `fetch`, `look` and `compact` wants memory.
+/// is answered `Worn` is no step. Only `commit`, `fetch`, `look` and `compact` need memory.
 pub trait Service {
     /// The states that the value may be at, as far as its caller knows.
     ghost at: { Self → State → Type 0 };
@@ -28,16 +28,16 @@ pub trait Service {
     /// The part of one run from a value to a later one, and the states at its ends.
     ghost stretch: { Self → Self → State → List Step → State → Type 0 };
 
-    /// Whether the service answers no call any more.
+    /// Holds if the service answers no call any more.
     ghost worn: { Self → Type 0 };
 
     /// The pins that it holds for its caller, by slot and version.
     ghost holds: { Self → ℕ → ℕ → Type 0 };
 
-    /// For each of two disks a number that its count of faults never exceeds, where it tells one.
+    /// For each of two disks a number that its count of faults never exceeds, if one is known.
     ghost bounds: { Self → Option ℕ × Option ℕ };
 
-    /// Commits a change, and answers the version that it makes. After a fault the history, the pins and the kept
+    /// Commits a change, and returns the version that it makes. After a fault the history, the pins and the kept
     /// entries are as before.
     fn commit(&mut self, change: Change) -> Result<u32, CommitFault>
         ensures call { (s : State) → at self.old s
@@ -46,7 +46,7 @@ pub trait Service {
         ensures held { SameHeld (holds self.old) (holds self.new) }
         ensures bounds { NotRaised (bounds self.old) (bounds self.new) };
 
-    /// Pins the head. `None` exactly where 64 pins are held.
+    /// Pins the head; `None` exactly if 64 pins are held.
     fn pin(&mut self) -> Result<Option<Pin>, CallFault>
         ensures call { (s : State) → at self.old s
             → Calls stretch (owns self.old) self.old self.new s (pin_calls result) }
@@ -58,7 +58,8 @@ pub trait Service {
         ensures bounds { NotRaised (bounds self.old) (bounds self.new) };
 
     /// The next page of a pinned version: the records of the first `limit` identifiers from `from` on that are live
-    /// there and whose print holds what is wanted. Answers whether no other follows. After a fault the page is empty.
+    /// there and whose print holds the wanted bits. Returns true if no other page follows. After a fault the page is
+    /// empty.
     fn fetch<L: Ledger>(
         &mut self,
         pin: &Pin,
@@ -94,7 +95,7 @@ pub trait Service {
         ensures memory { NeedsNone result }
         ensures bounds { NotRaised (bounds self.old) (bounds self.new) };
 
-    /// Drops the entries that neither a pinned version nor the head reads, and answers how many.
+    /// Drops the entries that neither a pinned version nor the head reads, and returns their number.
     fn prune(&mut self) -> Result<u32, CallFault>
         ensures call { (s : State) → at self.old s
             → Calls stretch (owns self.old) self.old self.new s (prune_calls result) }
@@ -103,7 +104,7 @@ pub trait Service {
         ensures memory { NeedsNone result }
         ensures bounds { NotRaised (bounds self.old) (bounds self.new) };
 
-    /// What an identifier is at the head.
+    /// The status of an identifier at the head.
     fn look(&mut self, id: u32) -> Result<Look, CallFault>
         ensures call { (s : State) → at self.old s
             → Calls stretch (owns self.old) self.old self.new s (look_calls id result) }
@@ -121,9 +122,9 @@ pub trait Service {
         ensures memory { NeedsNone result }
         ensures bounds { NotRaised (bounds self.old) (bounds self.new) };
 
-    /// One step of a compaction, by which a copy of the store takes the place of the disk that is read. Where no copy
-    /// runs one starts at the head; where it lacks items the next 256 are written; where it lacks none it takes that
-    /// place. Commits may be made meanwhile, and each is an item more. The history, the pins and the kept entries are as
+    /// One step of a compaction, by which a copy of the store replaces the disk that is read. If no copy runs, one
+    /// starts at the head. If it lacks items, the next 256 are written. If it lacks no item, it replaces that disk.
+    /// Commits may be made meanwhile, and each is one more item. The history, the pins and the kept entries are as
     /// before.
     fn compact(&mut self) -> Result<Compact, CompactFault>
         ensures call { (s : State) → at self.old s

@@ -1,7 +1,7 @@
 //! The store in memory: the kept entries of each identifier, the pins, and counts.
 //!
 //! It keeps no history. A commit and a look read the latest entry of one identifier. A fetch goes from one identifier
-//! to the next that has an entry whose print holds what is wanted, and a copy to the next that has one at all. A prune
+//! to the next that has an entry whose print holds the wanted bits, and a copy to the next that has any entry. A prune
 //! goes over the entries once.
 ghost use Rattle.std.specs.Prelude.{◌≡◌, ◌≤◌, ◌<◌, ◌+◌, ◌^◌, ◌++◌, [], ◌∷◌, All, Err, false, IfErr, IfOk, IfSome, length, map, MatchOption, None, OnErr, OnOk, option_copied, option_map, Some, true};
 ghost use Rattle.std.specs.Arc.{arc_value};
@@ -86,7 +86,7 @@ impl Model for Store {
 }
 
 impl Store {
-    /// A store without commits, which takes so many. It has no disk to compact. Takes no memory.
+    /// A store without commits, which takes `commits` of them. It has no disk to compact. Takes no memory.
     pub fn fresh(alloc: Global, commits: u32) -> Store
         requires some { 1 ≤ commits }
         requires few { commits ≤ MOST_COMMITS }
@@ -102,8 +102,8 @@ impl Store {
         }
     }
 
-    /// A store at the version of a base of which no state was given yet. It takes as many commits as a store may have.
-    /// Takes no memory.
+    /// A store at the version of a base of which no state was given yet. It takes `MOST_COMMITS` commits in all. Takes
+    /// no memory.
     pub fn at_base(alloc: Global, version: u32) -> Store
         requires { version ≤ MOST_COMMITS }
         ensures stands { StandsFor result (based version []) }
@@ -120,7 +120,7 @@ impl Store {
     }
 
     /// Gives it the state of an identifier, with the version that made it. Identifiers come in ascending order. After
-    /// want of memory it stands for the same.
+    /// an error it represents the same state.
     pub fn put_base(
         &mut self,
         id: u32,
@@ -151,7 +151,7 @@ impl Store {
         self.version
     }
 
-    /// How many identifiers have a state at the head. Takes no memory.
+    /// The number of identifiers that have a state at the head. Takes no memory.
     pub fn states(&self) -> u32
         ensures count { (s : State) → StandsFor self.now (served s)
             → result ≡ length (entries (snapshot s.history (head s.history))) }
@@ -160,8 +160,8 @@ impl Store {
         self.live + self.withdrawn
     }
 
-    /// Finds whether a change may be made, and takes the memory for it: the first half of a commit. It stands for the
-    /// same afterwards.
+    /// Checks whether a change may be made, and takes the memory for it: the first half of a commit. It represents the
+    /// same state afterwards.
     pub fn prepare(&mut self, change: &Change) -> Result<(), CommitFault>
         ensures prepared { OnOk result (IsPrepared self.new change.now) }
         ensures why { IfErr result (λ fault. (s : State) → StandsFor self.old (served s)
@@ -199,7 +199,7 @@ impl Store {
         self.kept.add(id, self.version, change.into_entry());
     }
 
-    /// Takes so many commits in all from now on. Those that were made stay.
+    /// Takes `commits` commits in all from now on. Those that were made stay.
     pub fn limit_to(&mut self, commits: u32)
         requires { commits ≤ MOST_COMMITS }
         ensures stands { (s : Served) → StandsFor self.old s
@@ -209,8 +209,8 @@ impl Store {
         self.limit = commits;
     }
 
-    /// The first identifier from `from` on that has a state at a version, with this state. `None` where none has one.
-    /// A copy reads its version so. Takes no memory.
+    /// The first identifier from `from` on that has a state at a version, with this state; `None` if no identifier has
+    /// one. A copy reads its version so. Takes no memory.
     pub fn next_state(&self, from: u32, version: u32) -> Option<IdState<'_>>
         ensures first { (s : State) → StandsFor self.now (served s) → KeepsVersion s version
             → IsFirstFrom from (entries (snapshot s.history version)) (option_map state_of result) }
@@ -231,8 +231,8 @@ impl Store {
         None
     }
 
-    /// Drops the entries that are read neither at a pinned version nor at the head, nor at the version of a copy, where
-    /// one runs, and answers how many. Takes no memory.
+    /// Drops the entries that are read neither at a pinned version nor at the head, nor at the version of a copy if one
+    /// runs, and returns their number. Takes no memory.
     pub fn prune_but(&mut self, copied: Option<u32>) -> u32
         ensures pruned { (s : State) → StandsFor self.old (served s) → KeepsCopy copied s
             → Prunes self.new s result }
@@ -244,7 +244,7 @@ impl Store {
         self.kept.prune(versions.as_slice())
     }
 
-    // The versions of the pins, one more, where there is one, and the head's.
+    // The versions of the pins, one more if there is one, and the head's.
     fn in_use(&self, more: Option<u32>) -> InUse
         ensures { result.items ≡ map (λ p. p.version) self.now.pins
             ++ (option_to_list more ++ self.now.version ∷ []) }
@@ -410,7 +410,7 @@ impl Service for Store {
     ghost same = { same };
 }
 
-// The record, where there is one. It is a sound one.
+// The record, if there is one, which is sound.
 fn own_record(entry: &Option<Arc<Record>>) -> Option<&Arc<Record>>
     ensures record { option_copied result ≡ entry.now }
     ensures sound { IfSome entry.now (λ r. IsRecord (arc_value r)) }
@@ -420,7 +420,7 @@ fn own_record(entry: &Option<Arc<Record>>) -> Option<&Arc<Record>>
     Some(record)
 }
 
-// Live and withdrawn identifiers with one more, which is live where it has a record.
+// Live and withdrawn identifiers with one more, which is live if it has a record.
 fn one_more(entry: &Option<Arc<Record>>, live: u32, withdrawn: u32) -> (u32, u32)
     requires { live + withdrawn < 2 ^ 30 }
     ensures { MatchOption entry.now
@@ -433,7 +433,7 @@ fn one_more(entry: &Option<Arc<Record>>, live: u32, withdrawn: u32) -> (u32, u32
     }
 }
 
-// Puts some versions behind others.
+// Appends versions to others.
 fn append(versions: &mut InUse, more: &[u32])
     requires room { length versions.old.items + length more.now ≤ MOST_IN_USE }
     ensures { versions.new.items ≡ versions.old.items ++ more.now }

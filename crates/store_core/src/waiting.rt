@@ -9,13 +9,13 @@ use std::alloc::AllocError;
 use std::marker::Model;
 use std::sync::Arc;
 
-// The most that wait.
+// The most records that wait.
 const MOST_WAITING: usize = 32;
 
 /// Contracts see the records, in the order in which they came.
 #[derive(Drop)]
 pub struct Waiting<'a> {
-    // each is there
+    // no element is `None`
     records: ArrayVec<Option<&'a Arc<Record>>, MOST_WAITING>,
 }
 
@@ -32,7 +32,7 @@ impl<'a> Model for Waiting<'a> {
 }
 
 impl<'a> Waiting<'a> {
-    /// None yet.
+    /// No records.
     pub fn new() -> Waiting<'a>
         ensures { result ≡ [] }
     {
@@ -41,14 +41,14 @@ impl<'a> Waiting<'a> {
         }
     }
 
-    /// How many wait.
+    /// The number of records that wait.
     pub fn len(&self) -> usize
         ensures { result ≡ length self.now }
     {
         self.records.len()
     }
 
-    /// One more waits, behind the others. Where there is no room, the others are shared with the page first.
+    /// Adds a record after the others. If there is no room, the others are shared with the page first.
     pub fn gather(&mut self, found: &'a Arc<Record>, page: &mut Page) -> Result<(), AllocError>
         requires { length page.old.records + length self.old < page.old.room }
         ensures ok { OnOk result (values (page.new.records ++ self.new)
@@ -82,8 +82,8 @@ impl<'a> Waiting<'a> {
         Ok(())
     }
 
-    // Reads how often each is shared. Reads wait for memory side by side, and raising a count that was read waits for
-    // none; raised without it, each count would wait for the one before.
+    // Reads the share count of each. Reads wait for memory side by side, and raising a count that was read does not
+    // wait. Without the reads, each count would wait for the one before.
     fn read_counts(&self) {
         for waiting in self.records.iter() {
             if let Some(record) = waiting {

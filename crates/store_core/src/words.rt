@@ -1,4 +1,4 @@
-//! What is asked of a service, and what it answers.
+//! The requests to a service, and its answers.
 ghost use Rattle.std.specs.Prelude.{◌≡◌, ◌+◌, ◌<◌, ◌^◌, IfErr, IfOk, IfSome, MatchResult, None, option_copied, option_map, ℕ};
 ghost use Rattle.store_machine.specs.History.{id_of};
 ghost use Rattle.store_core.specs.Kept.{IsEntryOf, kept_of, status_of};
@@ -39,7 +39,7 @@ impl Change {
         }
     }
 
-    // The same, for good.
+    // As `entry`, but consumes the change.
     pub(crate) fn into_entry(self) -> Option<Arc<Record>>
         ensures { result ≡ left_by self }
     {
@@ -49,7 +49,7 @@ impl Change {
         }
     }
 
-    // Whether it is allowed, by what its identifier is.
+    // Checks whether it is allowed, by the status of its identifier.
     pub(crate) fn check(&self, now: Option<(u32, &Option<Arc<Record>>)>) -> Result<(), CommitFault>
         ensures { let refusal = refusal_by (option_map status_of (kept_of now.entry)) self.now in
             MatchResult result (λ _. refusal ≡ None) (λ fault. IsRefusal fault refusal) }
@@ -89,7 +89,7 @@ pub enum CommitFault {
     /// The identifier to be revised or withdrawn is withdrawn.
     #[error("withdrawn")]
     Withdrawn,
-    /// There are as many commits as there may be.
+    /// The most commits were made.
     #[error("full")]
     Full,
     /// A disk failed. With `doubt` a crash may yet show the change committed.
@@ -113,7 +113,7 @@ impl From<AllocError> for CommitFault {
     }
 }
 
-/// What an identifier is at the head, with the version that made it so.
+/// The status of an identifier at the head, with the version that made it.
 #[derive(Drop)]
 pub enum Look {
     Absent,
@@ -122,7 +122,7 @@ pub enum Look {
 }
 
 impl Look {
-    // What was found of an identifier at the head. A record is shared once more.
+    // The look at an identifier, by its entry at the head. A record is shared once more.
     pub(crate) fn of(found: Option<(u32, &Option<Arc<Record>>)>) -> Result<Look, CallFault>
         ensures look { IfOk result (λ l. looked l ≡ option_map status_of (kept_of found.entry)) }
         ensures entry { (id : ℕ) → IfSome (kept_of found.entry) (λ k. IsEntryOf id k.value)
@@ -140,7 +140,7 @@ impl Look {
     }
 }
 
-/// What an identifier is at a version, with the version that made it so: its record, or none where it is withdrawn.
+/// The status of an identifier at a version, with the version that made it: its record, `None` if it is withdrawn.
 #[derive(Clone, Copy)]
 pub struct IdState<'a> {
     pub id: u32,
@@ -179,19 +179,19 @@ impl From<AllocError> for CallFault {
     }
 }
 
-/// What one step of a compaction did.
+/// The result of one step of a compaction.
 #[derive(Clone, Copy, Debug, PartialEq, Eq)]
 pub enum Compact {
-    /// A copy runs, and lacks so many items.
+    /// A copy runs, and lacks `left` items.
     More { left: u32 },
-    /// The copy took the place of the disk that was read. It is of this generation.
+    /// The copy replaced the disk that was read. It is of this generation.
     Done { generation: u32 },
 }
 
 /// Why a step of a compaction is not made.
 #[derive(Clone, Copy, Debug, PartialEq, Eq, Error)]
 pub enum CompactFault {
-    /// No generation is left, so that no copy may start. A store in memory has none.
+    /// No generation is left, so that no copy may start. A store in memory always answers so.
     #[error("the last generation")]
     Last,
     /// A disk failed, and the copy is given up. With `doubt` a crash may yet show it in place of the disk that is read.

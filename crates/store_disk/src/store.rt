@@ -89,7 +89,8 @@ impl<D: Disk> Model for Store<D> {
 impl<D: Disk + Drop> Store<D> {
     /// Opens the store of two disks. Of two that are open the one of greater generation is read, and `a` where both are
     /// equal. The store takes `commits` commits in all, 1 to `MOST_COMMITS`; those that are there stay, also where they
-    /// are more. What the head does not read is dropped from memory. Nothing is written.
+    /// are more. What the head does not read is dropped from memory. Nothing is written, and nothing is in doubt: no image
+    /// of the disk differs from what a read gives (`synced`).
     ///
     /// `NotAStore`: neither disk has a whole header. `Damaged(at)`: the disk that is read is damaged at this place, or
     /// its base record or commit there has a text without a structure, or its commit there may not follow those before

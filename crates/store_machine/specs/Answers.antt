@@ -1,4 +1,4 @@
--- What a search asks of a snapshot: the live records of whose texts something holds, ascending, and those from an
+-- The answers of a search in a snapshot: the live records whose texts satisfy a property, ascending, and those from an
 -- identifier on.
 use Rattle.std.specs.Prelude.{◌≡◌, ◌⊎◌, Bool, Contains, List, [], ◌∷◌, filter, map, nat_le, Some, ℕ}
 use Rattle.std.specs.FinMap.{get}
@@ -21,13 +21,13 @@ from_on from records = filter (λ r. nat_le from r.id) records
 abbrev pub IsLive : Snapshot → Found → Type 0
 IsLive states r = (version : ℕ) × (get states r.id ≡ Some (Live version r.format r.text))
 
--- the live records of whose texts this holds, each once, ascending
+-- the live records whose texts are asked for, each once, ascending
 pub record AreFound (Asked : Format → List ℕ → Type 0) (states : Snapshot) (records : List Found) : Type 0 where
   pub ascending : IsStrictlyIncreasing (ids records)
   pub only : (r : Found) → Contains records r → IsLive states r × Asked r.format r.text
   pub all : (r : Found) → IsLive states r → Asked r.format r.text → Contains records r
 
--- the identifier is live at the version, with a text of which this holds
+-- the identifier is live at the version, with a text that is asked for
 pub record IsAnswer (Asked : Format → List ℕ → Type 0) (h : History) (v id : ℕ) : Type 0 where
   pub version : ℕ
   pub format : Format
@@ -45,11 +45,11 @@ pub record AreAnswers (Asked : Format → List ℕ → Type 0) (h : History) (v 
 abbrev pub AreHits : History → ℕ → PatternTerm → List ℕ → Type 0
 AreHits h v pattern ids = AreAnswers (IsMatched pattern) h v ids
 
--- those whose print contains what is wanted
+-- those whose print contains the wanted bits
 abbrev pub AreTried : History → ℕ → List Bool → List ℕ → Type 0
 AreTried h v want ids = AreAnswers (IsScreened want) h v ids
 
--- of these records the identifiers of those that the pattern matches, in order
+-- the identifiers of those of these records that the pattern matches, in order
 abbrev pub AreMatched : PatternTerm → List Found → List ℕ → Type 0
 AreMatched pattern [] hits = hits ≡ []
 AreMatched pattern (r ∷ rs) hits =

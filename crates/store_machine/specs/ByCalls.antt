@@ -16,7 +16,7 @@ use Rattle.store_machine.specs.declared.machine.Reply.TheVariants.{Pinned}
 use Rattle.store_machine.specs.declared.machine.State.{State}
 use Rattle.store_machine.specs.declared.machine.Step.{Step}
 
--- the caller's calls are some, a Pin, and calls that do not give the pin back and whose pages are those of a search
+-- the caller's calls are any, a Pin, and calls that do not give the pin back and whose pages are those of a search
 pub record Calls (slot version : ℕ) (want : List Bool) (from : ℕ) (place : Place)
     (calls pages : List (Event × Reply)) : Type 0 where
   pub before : List (Event × Reply)
@@ -24,8 +24,8 @@ pub record Calls (slot version : ℕ) (want : List Bool) (from : ℕ) (place : P
   pub keeps : KeepsPin slot pages
   pub search : IsSearch want (At from) (fetched slot pages) place
 
--- the pages so far are the beginning, piece by piece, of what is found at the version, and at the end all of it; once
--- there is a page, there is a list of what is found
+-- the pages so far are the beginning, piece by piece, of the records found at the version, and at the end all of them;
+-- once there is a page, there is a list of the records found
 pub record Pages (s s' : State) (slot version : ℕ) (want : List Bool) (place : Place)
     (pages : List (Event × Reply)) : Type 0 where
   pub not_before : head s.history ≤ version

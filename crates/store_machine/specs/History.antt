@@ -1,5 +1,5 @@
--- What was committed, what each identifier is at each version, and which change is allowed. A history is a base, at a
--- version, and the commits after it, each of which makes the next version.
+-- The history of commits, the state of each identifier at each version, and the changes that are allowed. A history is
+-- a base, at a version, and the commits after it, each of which makes the next version.
 use Rattle.std.specs.Prelude.{◌≡◌, ◌+◌, ◌++◌, ◌-◌, ◌≤◌, List, [], ◌∷◌, None, Option, Some, drop, length, take, ℕ}
 use Rattle.std.specs.FinMap.{FinMap, entries, from_entries, get, insert}
 use Rattle.std.specs.Ordering.{nat_cmp}
@@ -50,7 +50,7 @@ of_commits commits = record { base = []; version = 0; commits = commits }
 abbrev pub begun : History
 begun = of_commits []
 
--- with more commits behind it
+-- with more commits after it
 abbrev pub grown : History → List Change → History
 grown h more = record h { commits = h.commits ++ more }
 

@@ -1,4 +1,4 @@
--- Which entries a state needs: those that some version in use can read.
+-- The entries that a state needs: those that a version in use can read.
 use Rattle.std.specs.Prelude.{◌≡◌, ◌++◌, ◌∷◌, ◌≤◌, Contains, List, [], map, MatchOption, None, Option, Some, ℕ}
 use Rattle.std.specs.FinMap.{get}
 use Rattle.store_machine.specs.History.{head, made_at, snapshot}
@@ -8,7 +8,7 @@ use Rattle.store_machine.specs.declared.machine.Entry.{Entry}
 use Rattle.store_machine.specs.declared.machine.History.{History}
 use Rattle.store_machine.specs.declared.machine.State.{State}
 
--- at some version of these, the identifier's state is the one that was made at the entry's version
+-- at one of these versions, the identifier's state is the one that was made at the entry's version
 pub record IsNeeded (h : History) (versions : List ℕ) (entry : Entry) : Type 0 where
   pub at : ℕ
   pub used : Contains versions at

@@ -29,13 +29,13 @@ abbrev pub CommitsChange : Type 0
 CommitsChange = (h : History) (c : Change) → snapshot (grown h (c ∷ [])) (head h + 1)
     ≡ after_change (head h + 1) c (snapshot h (head h))
 
--- a state was the same at the version that made it, which is no later than the snapshot's where the base is not, and is
--- of an identifier in range
+-- a state was the same at the version that made it, and the identifier is in range. That version is no later than the
+-- snapshot's, if the base is not
 abbrev pub StatesStay : Type 0
 StatesStay = (h : History) (v id : ℕ) (status : Status) → IsHistory h → get (snapshot h v) id ≡ Some status
     → IsId id × (1 ≤ made_at status) × (h.version ≤ v → made_at status ≤ v) × (get (snapshot h (made_at status)) id ≡ Some status)
 
--- what is found is one list
+-- the records that are found are one list
 abbrev pub AnswersAreOne : Type 0
 AnswersAreOne = (want : List Bool) (states : Snapshot) (xs ys : List Found) → AreFound (IsScreened want) states xs
     → AreFound (IsScreened want) states ys → xs ≡ ys
@@ -53,7 +53,7 @@ pub record IsSound (s : State) : Type 0 where
 abbrev pub RunsStaySound : Type 0
 RunsStaySound = (s s' : State) (steps : List Step) → IsRun s steps s' → IsSound s → IsSound s'
 
--- the history at the end of a run without a crash is that at its begin with more behind it
+-- the history at the end of a run without a crash is that at its start with more commits after it
 abbrev pub RunsGrow : Type 0
 RunsGrow = (s s' : State) (steps : List Step) → IsRun s steps s' → IsCalm steps → (more : List Change)
     × (s'.history ≡ grown s.history more)
@@ -74,8 +74,7 @@ pub record TakesPin (own : ℕ → Bool) (x : Step) (slot version : ℕ) : Type 
   pub event : x.event ≡ Pin
   pub reply : x.reply ≡ Pinned slot version
 
--- a part of a run that begins with a Pin, without a crash, in which the pin's fetches are a search from a place to
--- another
+-- a part of a run without a crash that begins with a Pin; the pin's fetches are a search from one place to another
 pub record Searching (own : ℕ → Bool) (pin : Step) (steps : List Step) (slot version : ℕ) (want : List Bool)
     (place place' : Place) : Type 0 where
   pub after : State
@@ -85,8 +84,8 @@ pub record Searching (own : ℕ → Bool) (pin : Step) (steps : List Step) (slot
   pub keeps : KeepsPin slot (calls_of own steps)
   pub search : IsSearch want place (fetched slot (calls_of own steps)) place'
 
--- the version is the head at the Pin; what the pages gave so far and what is ahead are together what the snapshot has
--- from the start on
+-- the version is the head at the Pin. The records of the pages so far and those ahead are together those of the
+-- snapshot from the start on
 abbrev pub PagesAreAPrefix : Type 0
 PagesAreAPrefix = (own : ℕ → Bool) (pin : Step) (steps : List Step) (slot version : ℕ) (want : List Bool)
     (place place' : Place)
@@ -95,7 +94,7 @@ PagesAreAPrefix = (own : ℕ → Bool) (pin : Step) (steps : List Step) (slot ve
     × ((all : List Found) → AreFound (IsScreened want) (snapshot pin.before.history version) all
     → records_of (fetched slot (calls_of own steps)) ++ ahead place' all ≡ ahead place all)
 
--- with one limit, the k-th page is the k-th piece of what is found at the Pin, whether the search has ended or not
+-- with one limit, the k-th page is the k-th piece of the records found at the Pin, even before the search has ended
 abbrev pub PagesArePieces : Type 0
 PagesArePieces = (own : ℕ → Bool) (pin : Step) (steps : List Step) (slot version from size : ℕ) (want : List Bool)
     (place' : Place)

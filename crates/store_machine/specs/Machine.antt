@@ -1,5 +1,5 @@
 -- The machine: from a state, an owner's call may be answered so, and leave this state. One definition for each row of
--- the table; what a row does not name is never answered.
+-- the table; an answer that no row names is never given.
 use Rattle.std.specs.Prelude.{◌≡◌, ◌+◌, ◌++◌, ◌-◌, ◌<◌, ◌≤◌, ◌==◌, ◌^◌, ◌⊎◌, ◌↔◌, AllPairs, Bool, Contains, List, [], ◌∷◌, count_by, false, filter, if◌then◌else◌, length, nat_le, None, not, Option, option_map, Some, take, true, ℕ, ◌≢◌}
 use Rattle.std.specs.FinMap.{entries, get}
 use Rattle.store_machine.specs.Answers.{AreFound, from_on}
@@ -25,7 +25,7 @@ use Rattle.store_machine.specs.declared.machine.TheConstants.{ITEMS_A_STEP, LAST
 abbrev pub now : State → Snapshot
 now s = snapshot s.history (head s.history)
 
--- Counts of faults. One rose where it is greater afterwards, or as great as it can be
+-- Counts of faults. One rose if it is greater afterwards, or as great as it can be
 abbrev pub Rose : ℕ → ℕ → Type 0
 Rose old new = (old < new) ⊎ (new + 1 ≡ 2 ^ 64)
 
@@ -35,7 +35,7 @@ SomeRose old new = Rose old.a new.a ⊎ Rose old.b new.b
 abbrev pub NoneFell : Faults → Faults → Type 0
 NoneFell old new = (old.a ≤ new.a) × (old.b ≤ new.b)
 
--- the state is this one, but for the counts of faults, of which no row speaks
+-- the state is this one, but for the counts of faults, which no row mentions
 abbrev pub Becomes : State → State → Type 0
 Becomes s s' = s' ≡ record s { faults = s'.faults }
 
@@ -47,7 +47,7 @@ abbrev pub EndsDoubts : State → State → Type 0
 EndsDoubts s s' = StaysOrEnds s.doubt s'.doubt × StaysOrEnds s.finish s'.finish
     × Becomes (record s { doubt = s'.doubt; finish = s'.finish }) s'
 
--- the answer is that a disk failed, and that none did
+-- the answer is that a disk failed, and that no disk did
 abbrev pub IsDiskFault : Reply → Type 0
 IsDiskFault (DiskFault doubt) = Unit {0}
 IsDiskFault _ = ⊥
@@ -112,7 +112,7 @@ PinGives s owner (Pinned slot version) s' =
     × Becomes (pinned s slot owner) s'
 PinGives s owner _ s' = ⊥
 
--- Fetch: the first `limit` of those from `from` on whose print contains what is wanted, and whether no other follows
+-- Fetch: the first `limit` records from `from` on whose print contains the wanted bits, and whether no other follows
 pub record IsPage (states : Snapshot) (want : List Bool) (from limit : ℕ) (records : List Found) (last : Bool) : Type 0
   where
     pub all : List Found
@@ -201,7 +201,7 @@ GivesUp s true s' = (version : ℕ) × IsWhole s version
 GivesUp s false s' = MayCopy s × StaysOrEnds s.finish s'.finish
     × Becomes (record s { copy = None; finish = s'.finish }) s'
 
--- memory ran out: some of the step's items may be written
+-- memory ran out: only a part of the step's items may be written
 abbrev pub TakesSome : Option Copying → Option Copying → Type 0
 TakesSome None new = new ≡ None
 TakesSome (Some old) new = (left : ℕ) × (new ≡ Some (record old { left = left })) × (left ≤ old.left)
@@ -217,16 +217,16 @@ CompactGives s NoMemory s' = TakesSome s.copy s'.copy × StaysOrEnds s.finish s'
     × Becomes (record s { copy = s'.copy; finish = s'.finish }) s'
 CompactGives s _ s' = ⊥
 
--- What the disk that is read has: the history from its base on
+-- The history of the disk that is read: from its base on
 abbrev pub on_disk : State → History
 on_disk s = rebase s.history s.base
 
--- what the copy of a version has: the history from this version on, in the next generation
+-- the history of the copy of a version: from this version on, in the next generation
 abbrev pub IsOfCopy : State → ℕ → History → ℕ → Type 0
 IsOfCopy s version h generation = (h ≡ rebase s.history version) × (generation ≡ s.generation + 1)
 
--- What two disks may open to at rest, after a call: what the disk that is read has, or this and the commit in doubt, or
--- the copy whose finish is in doubt. A copy that runs is never open.
+-- The histories to which two disks may open at rest, after a call. It is that of the disk that is read, or this and the
+-- commit in doubt, or that of the copy whose finish is in doubt. A running copy is never open.
 abbrev pub MayBeLeft : State → History → ℕ → Type 0
 MayBeLeft s h generation =
     ((h ≡ on_disk s) × (generation ≡ s.generation))
@@ -264,7 +264,7 @@ OpenGives s (Opened version) s' =
     × NoneFell s.faults s'.faults × Becomes (record s { kept = s'.kept; serves = true }) s'
 OpenGives s _ s' = ⊥
 
--- calls are served where the machine was opened
+-- calls are served if the machine was opened
 abbrev pub Serves : State → State → Type 0
 Serves s s' = (s.serves ≡ true) × NoneFell s.faults s'.faults
 

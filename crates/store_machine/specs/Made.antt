@@ -1,4 +1,4 @@
--- Which entries a history has made, and how a store that keeps some of them reads a snapshot.
+-- The entries that a history has made, and the snapshot that a store reads from the entries that it keeps.
 use Rattle.std.specs.Prelude.{◌≡◌, ◌+◌, ◌<◌, ◌≤◌, ◌⊎◌, Contains, List, [], ◌∷◌, MatchOption, Some, ℕ}
 use Rattle.std.specs.FinMap.{get}
 use Rattle.store_machine.specs.History.{base_states, id_of, made_at, snapshot}
@@ -24,8 +24,8 @@ KeepsMade s = (entry : Entry) → Contains s.kept entry → HasMade s.history en
 abbrev pub IsKept : State → ℕ → ℕ → Type 0
 IsKept s id version = Contains s.kept (record { id = id; version = version })
 
--- of the entries that are kept of an identifier, the latest at or before the version is that of its state there; where
--- it has none, there is none
+-- of the kept entries of an identifier, the latest at or before the version is that of its state there. An identifier
+-- without a state has no such entry
 abbrev pub ReadsKept : State → ℕ → ℕ → Type 0
 ReadsKept s v id = MatchOption (get (snapshot s.history v) id)
     ((version : ℕ) → IsKept s id version → v < version)

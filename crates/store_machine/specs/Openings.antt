@@ -1,4 +1,4 @@
--- What an opening leaves, and that a crash and an opening lead there.
+-- The state after an opening, to which a crash and an opening lead.
 use Rattle.std.specs.Prelude.{◌≡◌, List, [], ◌∷◌, None, true, ℕ}
 use Rattle.store_machine.specs.History.{head}
 use Rattle.store_machine.specs.Machine.{AreNeeded, Recovers, crashed}
@@ -9,8 +9,8 @@ use Rattle.store_machine.specs.declared.machine.State.{State}
 use Rattle.store_machine.specs.declared.machine.Step.{Step}
 use Rattle.store_machine.specs.declared.machine.Times.{Times}
 
--- A state as an opening leaves it: it serves, nothing is pinned, copied or in doubt, the disk's base is the history's,
--- and exactly what the head reads is kept.
+-- A state after an opening: it serves, nothing is pinned, copied or in doubt, the disk's base is the history's, and
+-- exactly the entries that the head reads are kept.
 pub record IsOpened (commits : ℕ) (s : State) : Type 0 where
   pub serves : s.serves ≡ true
   pub limit : s.limit ≡ commits
@@ -36,7 +36,7 @@ reopening s t at begin end =
       end = end;
     } ∷ []
 
--- what a crash may recover can be opened
+-- each state that a crash may recover can be opened
 abbrev pub CrashOpens : Type 0
 CrashOpens = (s t : State) (at begin end : Times) → Recovers s t.history t.generation → IsOpened s.limit t
     → IsRun s (reopening s t at begin end) t

@@ -1,4 +1,4 @@
--- What stays where a history's base is moved to a later version.
+-- Facts that stay if a history's base is moved to a later version.
 use Rattle.std.specs.Prelude.{◌≡◌, ◌≤◌, List, ℕ}
 use Rattle.std.specs.FinMap.{entries, from_entries}
 use Rattle.store_machine.specs.History.{AreAllowed, IsHistory, Snapshot, base_states, grown, head, rebase, snapshot}
@@ -32,6 +32,6 @@ LaterRebasesStand = (h : History) (d e : ℕ) → h.version ≤ d → d ≤ e �
 abbrev pub BasesReadBack : Type 0
 BasesReadBack = (states : Snapshot) → from_entries (entries states) ≡ states
 
--- a base that is moved to where it stands stays
+-- a base that is moved to its own version stays
 abbrev pub RebasesStay : Type 0
 RebasesStay = (h : History) → IsHistory h → rebase h h.version ≡ h

@@ -33,7 +33,7 @@ abbrev pub calls_of : (ℕ → Bool) → List Step → List (Event × Reply)
 calls_of own [] = []
 calls_of own (x ∷ xs) = if is_own own x then (x.event, x.reply) ∷ calls_of own xs else calls_of own xs
 
--- a run goes on from where another ended
+-- a run goes on from the state in which another ended
 abbrev pub RunsJoin : Type 0
 RunsJoin = (xs ys : List Step) (s t u : State) → IsRun s xs t → IsRun t ys u → IsRun s (xs ++ ys) u
 

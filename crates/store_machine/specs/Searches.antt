@@ -1,4 +1,4 @@
--- A search by the fetches of one pin: where it stands, and what its pages gave. Calls of a fetch that found no memory
+-- A search by the fetches of one pin: its place, and the records of its pages. Calls of a fetch that found no memory
 -- are no pages.
 use Rattle.std.specs.Prelude.{drop, length, nat_le, take, ◌≡◌, ◌+◌, ◌++◌, ◌==◌, Bool, List, [], ◌∷◌, false, filter_map, if◌then◌else◌, None, Option, Some, ℕ}
 use Rattle.store_machine.specs.Answers.{from_on}
@@ -39,7 +39,7 @@ abbrev pub KeepsPin : ℕ → List (Event × Reply) → Type 0
 KeepsPin slot [] = Unit {0}
 KeepsPin slot (c ∷ cs) = (unpins slot c.0 ≡ false) × KeepsPin slot cs
 
--- where a search stands: at the identifier that it fetches from next, or at its end
+-- the place of a search: at the identifier that it fetches from next, or at its end
 pub data Place : Type 0 where
   At : (from : ℕ) → Place
   End : Place
@@ -52,13 +52,13 @@ past from (r ∷ rs) = past (r.id + 1) rs
 abbrev pub place_after : Fetched → Place
 place_after f = if f.last then End else At (past f.from f.records)
 
--- the pages are those of a search for what is wanted, from one place to another: each begins where the one before it
+-- the pages are those of a search for the wanted bits, from one place to another: each begins where the one before it
 -- ended
 abbrev pub IsSearch : List Bool → Place → List Fetched → Place → Type 0
 IsSearch want place [] place' = place' ≡ place
 IsSearch want place (f ∷ fs) place' = (place ≡ At f.from) × (f.want ≡ want) × IsSearch want (place_after f) fs place'
 
--- what a search has yet to give
+-- the records that a search has yet to give
 abbrev pub ahead : Place → List Found → List Found
 ahead (At from) records = from_on from records
 ahead End records = []

@@ -1,4 +1,4 @@
--- What a text is: its structure, the structure's print, and whether a pattern matches it.
+-- The structure of a text, the structure's print, and whether a pattern matches it.
 use Rattle.std.specs.Prelude.{◌↔◌, Bool, List, ℕ}
 use Rattle.chem_core.specs.Bits.{HasBit}
 use Rattle.chem_core.specs.Molecule.{Molecule, IsMolecule}
@@ -20,22 +20,22 @@ HasPrintBit m bit = (family : Family) × IsPathBit (molecule_view m family) bit
 abbrev pub IsPrintOf : Molecule → List Bool → Type 0
 IsPrintOf m print = (bit : ℕ) → HasBit print bit ↔ HasPrintBit m bit
 
--- the structure's print contains what is wanted
+-- the structure's print contains the wanted bits
 abbrev pub HasAll : Molecule → List Bool → Type 0
 HasAll m want = (bit : ℕ) → HasBit want bit → HasPrintBit m bit
 
--- what a search asks of a text by its print
+-- a text's print has the bits that a search asks for
 abbrev pub IsScreened : List Bool → Format → List ℕ → Type 0
 IsScreened want format text = (m : Molecule) × HasMolecule format text m × HasAll m want
 
--- what it asks by its pattern
+-- a search's pattern matches a text
 abbrev pub IsMatched : PatternTerm → Format → List ℕ → Type 0
 IsMatched pattern format text = (m : Molecule) × HasMolecule format text m × Matches pattern m
 
--- what a pattern needs of a print
+-- the bits that a pattern needs of a print
 abbrev pub IsNeedOf : PatternTerm → List Bool → Type 0
 IsNeedOf pattern want = IsNeed pattern want
 
--- whatever the pattern matches has what is wanted
+-- each structure that the pattern matches has the wanted bits
 abbrev pub Screens : PatternTerm → List Bool → Type 0
 Screens pattern want = (m : Molecule) → IsMolecule m → Matches pattern m → HasAll m want

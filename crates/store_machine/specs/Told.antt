@@ -1,4 +1,4 @@
--- What the replies of a run tell: versions, and the commits that it made.
+-- The versions that the replies of a run show, and the commits that it made.
 use Rattle.std.specs.Prelude.{◌≡◌, ◌⊎◌, ◌+◌, ◌++◌, ◌≤◌, Bool, length, List, [], ◌∷◌, Some, ℕ}
 use Rattle.store_machine.specs.History.{grown, head, made_at}
 use Rattle.store_machine.specs.Laws.{IsSound}
@@ -13,7 +13,7 @@ use Rattle.store_machine.specs.declared.machine.Reply.TheVariants.{Committed, Co
 use Rattle.store_machine.specs.declared.machine.State.{State}
 use Rattle.store_machine.specs.declared.machine.Step.{Step}
 
--- the reply tells this version
+-- the reply shows this version
 abbrev pub TellsVersion : Reply → ℕ → Type 0
 TellsVersion (Committed version) v = v ≡ version
 TellsVersion (Pinned slot version) v = v ≡ version
@@ -21,7 +21,7 @@ TellsVersion (Looked (Some status)) v = v ≡ made_at status
 TellsVersion (Counted version live withdrawn kept pins) v = v ≡ version
 TellsVersion _ v = ⊥
 
--- one of these calls was told this version
+-- one of these replies shows this version
 abbrev pub IsTold : List (Event × Reply) → ℕ → Type 0
 IsTold [] v = ⊥
 IsTold (c ∷ cs) v = TellsVersion c.1 v ⊎ IsTold cs v
@@ -40,7 +40,7 @@ abbrev pub acknowledged : List Step → List Change
 acknowledged [] = []
 acknowledged (x ∷ xs) = made x.event x.reply ++ acknowledged xs
 
--- without a crash, a run adds to the history what it acknowledged
+-- without a crash, a run adds the commits that it acknowledged to the history
 abbrev pub RunsAdd : Type 0
 RunsAdd = (s s' : State) (steps : List Step) → IsRun s steps s' → IsCalm steps
     → s'.history ≡ grown s.history (acknowledged steps)
@@ -55,7 +55,7 @@ CommitsStand = (s s' : State) (steps : List Step) (own : ℕ → Bool) (c : Chan
     (before later : List (Event × Reply)) → IsRun s steps s' → IsCalm steps
     → calls_of own steps ≡ before ++ (Commit c, Committed k) ∷ later → IsCommit s'.history k c
 
--- no reply tells a version that is not there yet
+-- no reply shows a version to come
 abbrev pub ToldIsThere : Type 0
 ToldIsThere = (s s' : State) (steps : List Step) (own : ℕ → Bool) (v : ℕ) → IsSound s → IsRun s steps s'
     → IsCalm steps → IsTold (calls_of own steps) v → v ≤ head s'.history
@@ -67,7 +67,7 @@ SlotsWereFree = (s s' : State) (steps : List Step) (own : ℕ → Bool) (slot v 
     → calls_of own steps ≡ before ++ (Pin, Pinned slot v) ∷ (pages ++ (Pin, Pinned slot v') ∷ later)
     → ¬ KeepsPin slot pages
 
--- a pin is of no version to come, and of none before one that its caller was told
+-- a pin is of no version to come, and of no version before one that its caller saw
 abbrev pub PinsAreNew : Type 0
 PinsAreNew = (s s' : State) (steps : List Step) (own : ℕ → Bool) (slot version : ℕ)
     (before later : List (Event × Reply)) → IsSound s → IsRun s steps s' → IsCalm steps

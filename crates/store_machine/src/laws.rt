@@ -27,19 +27,19 @@ pub fn answers_are_one()
     ensures { AnswersAreOne }
 {}
 
-/// Every state of a run keeps what its pins and its head need.
+/// Every state of a run keeps the entries that its pins and its head need.
 pub fn runs_stay_sound()
     ensures { RunsStaySound }
 {}
 
-/// The history at the end of a run without a crash is that at its begin with more behind it.
+/// The history at the end of a run without a crash is that at its start with more commits after it.
 pub fn runs_grow()
     ensures { RunsGrow }
 {}
 
-/// What the calls of a run without a crash tell: the commits that they acknowledge are those that the history grew by,
-/// and one that was acknowledged as commit k is commit k of the history that the run leaves; no version is told that is
-/// not there yet; a pin's slot was free, and its version is no older than what its caller was told before.
+/// The replies of the calls of a run without a crash. Their acknowledged commits are those that the history grew by;
+/// one acknowledged as commit k is commit k of the history that the run leaves. No reply shows a version to come. A
+/// pin's slot was free, and its version is at least each that its caller saw before.
 pub fn replies_tell()
     ensures commits { RunsAdd }
     ensures stand { CommitsStand }
@@ -48,27 +48,27 @@ pub fn replies_tell()
     ensures pins { PinsAreNew }
 {}
 
-/// A run goes on from where another ended; neither has a crash where neither part has one.
+/// A run goes on from where another ended; neither has a crash if neither part has one.
 pub fn runs_join()
     ensures runs { RunsJoin }
     ensures calm { CalmsJoin }
 {}
 
-/// What a crash may recover can be opened: a crash and an opening are a run to each such state.
+/// Each state that a crash may recover can be opened: a crash and an opening are a run to it.
 pub fn crash_opens()
     ensures { CrashOpens }
 {}
 
-/// Whose an event is matters to pins alone: but for a fetch and an unpin it may be anybody's, and leaves the same but
-/// for the owner of a new pin. A state stays sound where the owners of its pins are changed.
+/// The owner of an event matters to pins alone. Except a fetch and an unpin, each event may have any owner; only the
+/// owner of a new pin differs then. A state stays sound if the owners of its pins are changed.
 pub fn owners_are_free()
     ensures steps { OwnersAreFree }
     ensures sound { SoundnessAsksNoOwner }
 {}
 
 /// A base moved to a later version keeps the snapshots from there on, the head, and that each commit is allowed. It may
-/// be moved before or after more commits, and of two moves the later says all. A base is read to its snapshot, and one
-/// that is moved to where it stands stays.
+/// be moved before or after more commits, and the later of two moves decides. A base is read to its snapshot, and one
+/// that is moved to its own version stays.
 pub fn rebases_keep()
     ensures snapshots { RebasesKeepSnapshots }
     ensures heads { RebasesKeepHeads }
@@ -79,17 +79,17 @@ pub fn rebases_keep()
     ensures stays { RebasesStay }
 {}
 
-/// At each version in use a store reads the snapshot from what is kept.
+/// At each version in use a store reads the snapshot from its kept entries.
 pub fn kept_is_read()
     ensures { KeptIsRead }
 {}
 
-/// A pin is held until its owner's Unpin, where there is no crash.
+/// A pin is held until its owner's Unpin, if there is no crash.
 pub fn pins_stay()
     ensures { PinsStay }
 {}
 
-/// The pages of a pin so far, and what is ahead, are together the answer at the Pin.
+/// The pages of a pin so far, and those ahead, are together the answer at the Pin.
 pub fn pages_are_a_prefix()
     ensures { PagesAreAPrefix }
 {}
@@ -106,7 +106,7 @@ pub fn pages_are_the_answer()
     mol_finish::structures_are_molecules();
 }
 
-/// The same by an owner's calls in a run, and by the history at the run's end.
+/// As `pages_are_the_answer`, by an owner's calls in a run, and by the history at the run's end.
 pub fn calls_give_pages()
     ensures { CallsGivePages }
 {

@@ -1,8 +1,8 @@
-//! The store as a machine: what it is asked, what it answers and what it then is, row by row, and laws of its runs.
+//! The store as a machine: its events, its replies and its states, row by row, and laws of its runs.
 //!
-//! The law of pages is the heart: the pages of a pin are together the answer in the snapshot at which it was taken,
-//! whatever commits and prunings stand between them. Nothing here runs: the types stand in contracts alone, and each
-//! law is the clause of a function that does nothing.
+//! The law of pages is the heart: the pages of a pin are together the answer in the snapshot at which it was taken.
+//! Commits and prunings between them change nothing. Nothing here runs: the types are for contracts alone, and each law
+//! is the clause of a function that does nothing.
 #![tactic(auto)]
 
 mod laws;

@@ -1,4 +1,4 @@
-//! The machine's words. No value of these types is made: they stand in contracts alone.
+//! The machine's words. No value of these types is made: they are for contracts alone.
 use mol_finish::Format;
 use std::collections::LinkedList;
 
@@ -8,7 +8,7 @@ pub const LAST_IDENTIFIER: u32 = 999_999_999;
 /// The greatest generation of a disk.
 pub const LAST_GENERATION: u32 = 4_294_967_295;
 
-/// How many items a step of a copy writes.
+/// The number of items that a step of a copy writes.
 pub const ITEMS_A_STEP: u32 = 256;
 
 /// A commit's change: a text is registered under an identifier or replaces the one there, or it is withdrawn.
@@ -28,7 +28,7 @@ pub enum Change {
     },
 }
 
-/// What an identifier is, with the version of the commit that made it so.
+/// The state of an identifier, with the version of the commit that made it so.
 pub enum Status {
     Live {
         version: u32,
@@ -40,8 +40,8 @@ pub enum Status {
     },
 }
 
-/// What was committed: the commits after a base, and what each identifier was at the base's version. Identifiers stand
-/// in the base once, ascending.
+/// The history of commits: the commits after a base, and the state of each identifier at the base's version.
+/// Identifiers are in the base once, ascending.
 pub struct History {
     pub base: LinkedList<(u32, Status)>,
     pub version: u32,
@@ -68,21 +68,21 @@ pub struct Entry {
     pub version: u32,
 }
 
-/// How many faults the two disks counted.
+/// The numbers of faults that the two disks counted.
 pub struct Faults {
     pub a: u64,
     pub b: u64,
 }
 
-/// A copy that runs: the version that its base is the snapshot of, and how many items it lacks.
+/// A copy that runs: the version of its base's snapshot, and the number of items that it lacks.
 pub struct Copying {
     pub version: u32,
     pub left: u32,
 }
 
-/// A state of the machine: `base` and `generation` are those of the disk that is read, `doubt` a commit and `finish`
-/// the version of a copy of which nobody knows whether the disks have them. Between a Crash and the next Open nothing
-/// is served.
+/// A state of the machine. `base` and `generation` are those of the disk that is read. `doubt` is a commit, and
+/// `finish` the version of a copy, that may be on the disks or not. Between a Crash and the next Open nothing is
+/// served.
 pub struct State {
     pub history: History,
     pub limit: u32,
@@ -97,7 +97,7 @@ pub struct State {
     pub serves: bool,
 }
 
-/// What is asked. `Crash` and `Open` are no calls, and nobody's.
+/// The events. `Crash` and `Open` are no calls, and have no owner.
 pub enum Event {
     Commit {
         change: Change,
@@ -122,7 +122,7 @@ pub enum Event {
     Open,
 }
 
-/// What is answered.
+/// The replies.
 pub enum Reply {
     Committed {
         version: u32,
@@ -177,8 +177,8 @@ pub struct Times {
     pub b: u64,
 }
 
-/// A step of a run: who asked what, the reply, the states before and after it, and the times at which its call began
-/// and ended. The owner of a Crash or an Open says nothing.
+/// A step of a run: the owner, the event, the reply, the states before and after it, and the times of its call's begin
+/// and end. The owner of a Crash or an Open says nothing.
 pub struct Step {
     pub owner: u64,
     pub event: Event,

@@ -1,4 +1,4 @@
--- A store in which one identifier alone may have what is wanted, and what keeps each pin.
+-- A store in which one identifier alone may have the wanted bits, and the pins that a step keeps.
 use Rattle.std.specs.Prelude.{◌≡◌, Bool, Contains, List, ℕ}
 use Rattle.store_machine.specs.Answers.{IsAnswer}
 use Rattle.store_machine.specs.Structures.{IsScreened}
@@ -6,7 +6,7 @@ use Rattle.store_machine.specs.declared.machine.Entry.{Entry}
 use Rattle.store_machine.specs.declared.machine.State.{State}
 use Rattle.store_core.specs.Stored.{HoldsPin, IsAt, StoreTerm}
 
--- each kept live entry whose print contains what is wanted is of this identifier
+-- each kept live entry whose print holds the wanted bits is of this identifier
 abbrev pub AreOf : List Bool → ℕ → State → Type 0
 AreOf want id s = (e : Entry) → Contains s.kept e → IsAnswer (IsScreened want) s.history e.version e.id → e.id ≡ id
 

@@ -15,7 +15,7 @@ mod stores;
 mod watches;
 mod worlds;
 
-// A store in memory of SMILES texts, at most 99, under identifiers from 1 on.
+// A store in memory of SMILES texts, at most 999, under identifiers from 1 on.
 fn store_of(alloc: Global, texts: &[&[u8]]) -> Result<Store, Fail> {
     let mut store = Store::fresh(alloc, 1_000);
     for id in 1..1_000_u32 {

@@ -5,7 +5,7 @@ abbrev pub has : List ℕ → ℕ → Bool
 has [] n = false
 has (m ∷ ms) n = if m == n then true else has ms n
 
--- how often a number stands in the list
+-- the number of times that a number is in the list
 abbrev pub times : ℕ → List ℕ → ℕ
 times n [] = 0
 times n (m ∷ ms) = if m == n then 1 + times n ms else times n ms

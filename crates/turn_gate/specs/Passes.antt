@@ -1,4 +1,4 @@
--- For callers: what the calls of a gate require, and what they tell.
+-- For callers: the requirements and promises of the calls of a gate.
 use Rattle.std.specs.Prelude.{◌≡◌, ◌⊎◌, ℕ, ◌+◌, ◌<◌, ◌≤◌, true, List, [], ◌∷◌, ◌++◌, length, None}
 use Rattle.turn_gate.specs.declared.known.Known.{Known}
 use Rattle.turn_gate.specs.declared.gate.Gate.{Gate}
@@ -7,7 +7,7 @@ use Rattle.turn_gate.specs.Numbers.{has, own}
 use Rattle.turn_gate.specs.Steps.{Sat, sat, first_pass, having_seen}
 
 module _ {V E O : Type 0} where
-  -- what a pass knows, and the slots that it holds
+  -- the knowledge of a pass, and the slots that it holds
   abbrev pub sat_of : Pass V E O → Sat V E O
   sat_of p = p.seat.me
 
@@ -43,7 +43,7 @@ module _ {V E O : Type 0} where
   abbrev pub IsFrom : O → Pass V E O → Type 0
   IsFrom origin p = (known p).origin ≡ origin ∷ []
 
-  -- it alone knows how many numbers were given
+  -- it alone knows the number of given numbers
   abbrev pub IsRoot : Pass V E O → Type 0
   IsRoot p = 0 < (known p).given
 
@@ -53,21 +53,21 @@ module _ {V E O : Type 0} where
     pub all : (n : ℕ) → n < (known p).given → has (known p).numbers n ≡ true
 
 module _ {V E O : Type 0} (stands : O → V → List E → Type 0) where
-  -- the first pass: its history begins at an origin where the value that was given stands for no event
+  -- the first pass: its history begins at an origin after which the given value records no event
   pub record Begins (value : V) (turns : ℕ) (p : Pass V E O) : Type 0 where
     pub origin : O
     pub standing : stands origin value []
     pub is : known p ≡ first_pass value origin turns
 
-  -- the value stands for the whole history, which is what the pass had seen
+  -- the value records the whole history, which the pass had seen
   pub record Ends (p : Pass V E O) (value : V) : Type 0 where
     pub origin : O
     pub of : IsFrom origin p
     pub standing : stands origin value (known p).seen
 
 module _ {V E O : Type 0} (stands : O → V → List E → Type 0) (number : E → ℕ) where
-  -- a turn begins: the pass has seen the whole history, for which the value stands.
-  -- What it had not seen before is not its own
+  -- a turn begins: the pass has seen the whole history, which the value records. Events that it had not seen before are
+  -- not its own
   pub record Sees (p : Pass V E O) (value : V) (q : Pass V E O) : Type 0 where
     pub origin : O
     pub more : List E
@@ -88,8 +88,8 @@ module _ {V E O : Type 0} (stands : O → V → List E → Type 0) (number : E �
     pub full : length ((known p).seen ++ more) ≡ turns
 
 module _ {V E O : Type 0} (stands : O → V → List E → Type 0) (tells : V → E → Type 0) (number : E → ℕ) where
-  -- an event of which the value tells. It names a number of the pass, and the value stands for what was seen with
-  -- this event behind it
+  -- an event that the value shows. It names a number of the pass, and the value records the seen events and then this
+  -- event
   pub record Names (p : Pass V E O) (value : V) : Type 0 where
     pub origin : O
     pub event : E
@@ -103,8 +103,8 @@ module _ {V E O : Type 0} (stands : O → V → List E → Type 0) (tells : V �
     pub names : Names p value
     pub sees : sat_of q ≡ sat (having_seen ((known p).seen ++ names.event ∷ []) 0 (known p)) []
 
--- The pass has seen what both had, and has the numbers of both. What one had not seen is none of its own.
--- Both histories begin at one origin. As root the pass knows that no event names a number that was not given
+-- The pass has seen all events that both had seen, and has the numbers of both. Events that one had not seen are not
+-- its own. Both histories begin at one origin. As root the pass knows that no event names a number that was not given
 pub record Merged {V E O : Type 0} (number : E → ℕ) (p o q : Pass V E O) : Type 0 where
   pub first : (known q).first ≡ (known p).first
   pub origin : (known q).origin ≡ (known p).origin

@@ -6,11 +6,11 @@ use Rattle.atomic_table.specs.Table.{State}
 use Rattle.turn_gate.specs.declared.known.Known.{Known}
 use Rattle.turn_gate.specs.Numbers.{has, own, times}
 
--- how far a gate has come
+-- the course of a gate so far
 pub record Course (E O : Type 0) : Type 0 where
   pub origin : O
   pub history : List E
-  -- how many numbers were given, and the seat that has each number
+  -- the number of given numbers, and the seat that has each number
   pub given : ℕ
   pub owner : ℕ → ℕ
   -- the seat of the root pass
@@ -32,14 +32,15 @@ PartsKnow {E} number history ns (p ∷ ps) =
     × ((n : ℕ) → has p.0 n ≡ true → has ns n ≡ true))
     × PartsKnow number history ns ps
 
--- what the seat k, with the view v, knows of the course of its gate, which was given `first` and has so many turns
+-- the knowledge of the seat k, with the view v, of the course of its gate, which was given `first` and has `turns`
+-- turns
 pub record Knows {V E O : Type 0} (number : E → ℕ) (first : V) (turns : ℕ) (c : Course E O) (k : ℕ)
     (v : Known V E O) : Type 0 where
   -- its seat may be spent
   pub first_is : (v.first ≡ []) ⊎ (v.first ≡ first ∷ [])
   pub turns_is : (v.turns ≡ 0) ⊎ (v.turns ≡ turns)
   pub origin_is : AreAll c.origin v.origin
-  -- the history begins with what it has seen, and goes on without events of its own
+  -- the history begins with the events that it has seen, and goes on without events of its own
   pub rest : List E
   pub seen_is : c.history ≡ v.seen ++ rest
   pub others : own number v.numbers rest ≡ []
@@ -49,15 +50,15 @@ pub record Knows {V E O : Type 0} (number : E → ℕ) (first : V) (turns : ℕ)
   pub turn : (v.stage ≡ 0) ⊎ ((k ≡ c.who) × (v.stage ≡ c.stage) × (2 ≤ c.stage → v.seen ≡ c.history)
       × ((n : ℕ) × (has v.numbers n ≡ true)))
   pub parts : PartsKnow number c.history v.numbers v.parts
-  -- the root alone knows how many numbers were given
+  -- the root alone knows the number of given numbers
   pub roots : (v.given ≡ 0) ⊎ ((v.given ≡ c.given) × (k ≡ c.root))
 
--- the seat k has a view, of which f is a
+-- the seat k has a view v, and f v is a
 abbrev pub At : {A V E O : Type 0} → List (Known V E O) → ℕ → (Known V E O → A) → A → Type 0
 At {A} {V} {E} {O} views k f a = (v : Known V E O) × (get_elem? views k ≡ some v) × (f v ≡ a)
 
--- There is one history, as long as the count, and it begins at one origin of the value that was given.
--- The value at home stands for it. Each view knows a beginning of it, with all of its own events
+-- There is one history, as long as the count, and it begins at one origin of the given value. The value at home records
+-- it. Each view knows a beginning of it, with all of its own events
 pub record OneHistory {V E O : Type 0} (stands : O → V → List E → Type 0) (number : E → ℕ) (first : V) (turns : ℕ)
     (s : State (Option V) (Known V E O)) : Type 0 where
   pub course : Course E O
@@ -71,7 +72,7 @@ pub record OneHistory {V E O : Type 0} (stands : O → V → List E → Type 0) 
   -- the value is at home but between the steps 2 and 4
   pub home : course.stage < 2 → (x : V) × (s.homes ≡ some (Some x) ∷ []) × stands course.origin x course.history
   pub knows : (k : ℕ) (v : Known V E O) → get_elem? s.views k ≡ some v → Knows number first turns course k v
-  -- some view has seen all, one is the root's, and each number that was given stands in one view, once
+  -- one view has seen all, one is the root's, and each given number is in one view, once
   pub longest : (k : ℕ) × At s.views k (λ v. v.seen) course.history
   pub rooted : (0 < course.given) × At s.views course.root (λ v. v.given) course.given
   pub had : (n : ℕ) → n < course.given → At s.views (course.owner n) (λ v. times n v.numbers) 1

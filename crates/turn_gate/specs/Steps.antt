@@ -1,12 +1,12 @@
--- What a pass knows after each step. For callers: `Sat`, `sat`, `first_pass`, `giving`, `given_to`, `having_seen`; the
--- rest is for the steps on the table.
+-- The knowledge of a pass after each step. For callers: `Sat`, `sat`, `first_pass`, `giving`, `given_to`,
+-- `having_seen`; the rest is for the steps on the table.
 use Rattle.std.specs.Prelude.{◌≡◌, ℕ, ◌+◌, ◌<◌, ◌≤◌, ◌==◌, true, List, [], ◌∷◌, ◌++◌, length, Option, Some, MatchBool}
 use Rattle.atomic_table.specs.Table.{Me, Step}
 use Rattle.turn_gate.specs.declared.known.Known.{Known}
 use Rattle.turn_gate.specs.Numbers.{has, own, longer}
 use Rattle.turn_gate.specs.Rules.{AreAll}
 
--- what a pass knows, and the slots that it holds
+-- the knowledge of a pass, and the slots that it holds
 abbrev pub Sat : Type 0 → Type 0 → Type 0 → Type 0
 Sat V E O = Me (Option V) (Known V E O)
 
@@ -44,11 +44,11 @@ module _ {V E O : Type 0} where
   abbrev pub giving : Known V E O → Known V E O
   giving v = record v { given = v.given + 1 }
 
-  -- the new pass has the next number, and has seen what the root pass had
+  -- the new pass has the next number, and has seen the root pass's events
   abbrev pub given_to : Known V E O → Known V E O
   given_to v = record v { numbers = v.given ∷ []; parts = []; stage = 0; given = 0 }
 
-  -- the numbers and origins of both, the longer of what both had seen, and both as parts
+  -- the numbers and origins of both, the longer of the two lists of seen events, and both as parts
   abbrev pub joined : Known V E O → Known V E O → Known V E O
   joined v w = record v {
     origin = v.origin ++ w.origin;
@@ -77,13 +77,13 @@ module _ {V E O : Type 0} where
 abbrev pub Takes : {V E O : Type 0} → Step (Option V) → Sat V E O → ℕ → Sat V E O → Type 0
 Takes s m found n = MatchBool (found == 0) (n ≡ sat (at_stage 1 m.0) m.1) (n ≡ m)
 
--- at the start: of the origins where the value that was given stands for no event, the gate's own was picked
+-- at the start: of the origins after which the given value records no event, the gate's own was picked
 abbrev pub Picks : {V E O : Type 0} → (O → V → List E → Type 0) → Step (Option V) → Sat V E O → ℕ → Sat V E O → Type 0
 Picks {V} {E} {O} stands s m found n =
     (origin : O) × (first : V) × (m.0.first ≡ first ∷ []) × stands origin first [] × (n ≡ sat (placed origin m.0) m.1)
 
--- 2: the whole history was seen, as long as the count, and the value that stands for it taken.
--- None of what was gained is the pass's own
+-- 2: the whole history was seen, as long as the count, and the value that records it taken. No event that was gained is
+-- the pass's own
 pub record Looks {V E O : Type 0} (stands : O → V → List E → Type 0) (number : E → ℕ) (s : Step (Option V))
     (m : Sat V E O) (found : ℕ) (n : Sat V E O) : Type 0 where
   pub origin : O
@@ -96,8 +96,7 @@ pub record Looks {V E O : Type 0} (stands : O → V → List E → Type 0) (numb
   pub most : length (m.0.seen ++ more) ≤ m.0.turns
   pub standing : stands origin value (m.0.seen ++ more)
 
--- 3: an event was added that names a number of the pass. The value that is held tells of it, and stands for the
--- history with it
+-- 3: an event was added that names a number of the pass. The held value shows it, and records the history with it
 pub record Adds {V E O : Type 0} (stands : O → V → List E → Type 0) (tells : V → E → Type 0) (number : E → ℕ)
     (s : Step (Option V)) (m : Sat V E O) (found : ℕ) (n : Sat V E O) : Type 0 where
   pub origin : O
@@ -114,15 +113,15 @@ pub record Adds {V E O : Type 0} (stands : O → V → List E → Type 0) (tells
 abbrev pub Releases : {V E O : Type 0} → Step (Option V) → Sat V E O → ℕ → Sat V E O → Type 0
 Releases s m found n = n ≡ sat (at_stage 0 m.0) []
 
--- what was seen begins with each part, and goes on without events of the part's numbers
+-- the seen events begin with each part, and go on without events of the part's numbers
 abbrev pub PartsSeen : {E : Type 0} → (E → ℕ) → List E → List (List ℕ × List E) → Type 0
 PartsSeen number seen [] = Unit {0}
 PartsSeen {E} number seen (p ∷ ps) =
     (length p.1 ≤ length seen → (rest : List E) × (seen ≡ p.1 ++ rest) × (own number p.0 rest ≡ []))
     × PartsSeen number seen ps
 
--- after a join: the origin of both parts is one, and how they stand in what was seen.
--- The root pass also learns that no event names a number that was not given, and looks so before a split too
+-- after a join: both parts have one origin, and the seen events begin with each. The root pass also learns that no
+-- event names a number that was not given, and looks so before a split too
 pub record Learns {V E O : Type 0} (number : E → ℕ) (s : Step (Option V)) (m : Sat V E O) (found : ℕ) (n : Sat V E O)
     : Type 0 where
   pub origin : O

@@ -11,12 +11,12 @@ use std::alloc::{AllocError, Global};
 use std::snapshot::Snapshot;
 use std::sync::atomic::AtomicU64;
 
-// The words of the table: how many events the history has, and whether a turn is on.
+// The words of the table: the number of events of the history, and 1 in a turn.
 pub(crate) const COUNT: usize = 0;
 
 pub(crate) const HOLDER: usize = 1;
 
-/// What a holder knows of the history of a gate. It takes no bytes.
+/// The holder's knowledge of the history of a gate. It takes no bytes.
 pub struct Pass<V: Stands> {
     pub(crate) seat: Seat<Option<V>, Known<V, V::Event, V::Origin>>,
 }
@@ -42,7 +42,7 @@ impl<V: Stands> Pass<V> {
 pub struct Gate<V: Stands> {
     pub(crate) table: Table<Option<V>, Known<V, V::Event, V::Origin>, About<V>, Rule<V>, Global>,
     pub(crate) turns: u64,
-    // How many callers sleep until a turn ends.
+    // The number of callers that sleep until a turn ends.
     pub(crate) asleep: AtomicU64,
     ghost sized: { (table.shared.table_id.words ≡ 2) × (table.shared.table_id.slots ≡ 1) },
     ghost told: { table.shared.key.turns ≡ turns },
@@ -52,8 +52,8 @@ pub struct Gate<V: Stands> {
 impl<V: Stands> Gate<V> {
     ghost use Rattle.turn_gate.specs.Passes.{IsOf, Begins, Ends, Merged, IsRoot, IsWhole, known, turns_of};
 
-    /// Returns a gate with a number of turns, 1 to 2^63, and its root pass, which is whole.
-    /// Its history begins at one origin where the value stands for no event. An error gives the value back.
+    /// Returns a gate with a number of turns, 1 to 2^63, and its root pass, which is whole. Its history begins at one
+    /// origin, after which the value records no event. An error gives the value back.
     pub fn start(alloc: Global, value: V, turns: u64) -> Result<(Gate<V>, Pass<V>), (AllocError, V)>
         requires turns { (1 ≤ turns) × (turns ≤ 2 ^ 63) }
         requires stands { (origin : V.Origin) × V.stands origin value [] }
@@ -91,8 +91,8 @@ impl<V: Stands> Gate<V> {
         }
     }
 
-    /// The root pass gives the next number to a new pass, which has seen what it had seen.
-    /// None of these events names that number.
+    /// The root pass gives the next number to a new pass, which has seen the same events. None of these events names
+    /// that number.
     pub fn split(&self, pass: &mut Pass<V>) -> Pass<V>
         requires of { IsOf self.now pass.old }
         requires root { IsRoot pass.old }
@@ -108,7 +108,7 @@ impl<V: Stands> Gate<V> {
         }
     }
 
-    /// The pass takes in another, with its numbers behind its own.
+    /// The pass takes in another, with its numbers after its own.
     pub fn join(&self, pass: &mut Pass<V>, other: Pass<V>)
         requires of { IsOf self.now pass.old }
         requires other { IsOf self.now other }
@@ -120,8 +120,7 @@ impl<V: Stands> Gate<V> {
         self.table.shared.load::<Learn<V>>(&mut pass.seat, COUNT);
     }
 
-    /// Gives the value back. It stands for the whole history, which is what the pass had seen:
-    /// a whole pass has seen all.
+    /// Gives the value back. It records the whole history, which the pass had seen: a whole pass has seen all.
     pub fn close(self, pass: Pass<V>) -> V
         requires of { IsOf self pass }
         requires whole { IsWhole pass }

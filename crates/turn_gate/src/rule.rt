@@ -1,11 +1,11 @@
-//! The rule of the gate's table, and what each step on it tells its pass.
+//! The rule of the gate's table, and the knowledge that each step on it gives its pass.
 use crate::known::Known;
 use crate::stands::Stands;
 use atomic_table::{Join, Play, Split, TableRule};
 use std::marker::PhantomData;
 use std::snapshot::Snapshot;
 
-/// What a gate is told once: the value as it was given, and the number of turns.
+/// The constants of a gate: the value as it was given, and the number of turns.
 pub struct About<V> {
     pub first: Snapshot<V>,
     pub turns: u64,
@@ -83,8 +83,8 @@ impl<V, E, O> Play<Option<V>, Known<V, E, O>> for Release {
     ghost then = { Releases };
 }
 
-/// How both parts of a joined pass stand in what it has seen. To the root pass, that no event names a number that was
-/// not given.
+/// The seen events of a joined pass begin with each part. The root pass also learns that no event names a number that
+/// was not given.
 pub struct Learn<V> {
     of: PhantomData<V>,
 }

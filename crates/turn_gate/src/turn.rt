@@ -31,7 +31,7 @@ impl<V: Stands> Pass<V> {
 
     /// Waits for a turn, in which the pass sees the whole history.
     ///
-    /// Returns `Worn` exactly where all turns of the gate were taken. The pass has then seen the whole history too.
+    /// Returns `Worn` exactly if all turns of the gate were taken. The pass has then seen the whole history too.
     pub fn turn<'g, R: Wait>(&'g mut self, rt: &R, gate: &'g Gate<V>) -> Result<Turn<'g, V>, Worn>
         requires of { IsOf gate.now self.old }
 
@@ -73,7 +73,7 @@ impl<'g, V: Stands> Turn<'g, V> {
         &mut self.value
     }
 
-    /// Ends the turn with one event, of which the value tells, and for which it stands now.
+    /// Ends the turn with one event, which the value shows and now records.
     pub fn end(self)
         requires on { InTurn self.gate.now self.pass.now self.count }
         requires names { Names V.stands V.tells V.number self.pass.now self.value }
@@ -94,8 +94,8 @@ impl<'g, V: Stands> Turn<'g, V> {
 impl<V: Stands> Gate<V> {
     ghost use Rattle.turn_gate.specs.Passes.{IsOf, InTurn, Sees, AllTaken, Names, Added, turns_of};
 
-    // Takes the holder word, sees the whole history and takes the value.
-    // Where all turns were taken it releases the word instead.
+    // Takes the holder word, sees the whole history and takes the value. If all turns were taken it releases the word
+    // instead.
     fn begin<R: Wait>(&self, rt: &R, pass: &mut Pass<V>) -> Result<Taken<V>, Worn>
         requires of { IsOf self.now pass.old }
         ensures in_turn { IfOk result (λ taken. InTurn self.now pass.new taken.count) }

@@ -1,5 +1,5 @@
-//! How a caller waits for its turn. Whoever has the turn may keep it for milliseconds, so a caller tries a few times,
-//! and then sleeps until the turn ends or for a millisecond at most.
+//! A caller waits for its turn. Whoever has the turn may keep it for milliseconds. So a caller tries a few times, and
+//! then sleeps until the turn ends, or for a millisecond at most.
 ghost use Rattle.std.specs.Prelude.{◌≡◌, ◌+◌, ◌*◌, [], min, MatchBool};
 ghost use Rattle.std.specs.Duration.{as_nanos};
 ghost use Rattle.turn_gate.specs.Passes.{IsOf};
@@ -14,7 +14,7 @@ use std::thread::Parker;
 use std::time::Duration;
 use std::{hint, thread};
 
-// How many tries are made one after another, and how many until the first sleep.
+// The number of tries that are made one after another, and the number until the first sleep.
 const SPINS: u32 = 64;
 
 const YIELDS: u32 = 256;
@@ -45,7 +45,7 @@ impl<V: Stands> Gate<V> {
         }
     }
 
-    // Takes the holder word, and says whether it did: it does not where a turn is on.
+    // Takes the holder word, and returns true; false if a turn is on.
     fn try_take(&self, pass: &mut Pass<V>) -> bool
         requires of { IsOf self.now pass.old }
         ensures same { pass.new.seat.table_id ≡ pass.old.seat.table_id }
@@ -57,7 +57,7 @@ impl<V: Stands> Gate<V> {
         shared.compare_exchange::<Take>(&mut pass.seat, HOLDER, 0, 1) == 0
     }
 
-    // Lets time pass after so many tries.
+    // Lets time pass after `tries` tries.
     fn pause<R: Wait>(&self, rt: &R, tries: u32) {
         if tries < SPINS {
             hint::spin_loop();
@@ -83,7 +83,7 @@ impl<V: Stands> Gate<V> {
     }
 }
 
-// How long a sleep may be after so many: 32 microseconds longer each time, up to about a millisecond.
+// The longest sleep after `sleeps` sleeps: 32 microseconds longer each time, up to about a millisecond.
 fn nap(sleeps: u32) -> Duration
     ensures { as_nanos result ≡ 32000 * (1 + min sleeps 31) }
 {

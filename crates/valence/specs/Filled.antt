@@ -7,7 +7,7 @@ use Rattle.chem_core.specs.declared.sketch.Fill.TheVariants.{Given, Organic, Tab
 use Rattle.chem_core.specs.Sketch.{SketchTerm}
 use Rattle.valence.specs.Valence.{organic_valences, table_valences, bond_sum}
 
--- what the least of these valences that is not below the sum leaves, and 0 where there is none
+-- the least of these valences that is not below the sum, less the sum; 0 if there is none
 abbrev pub missing : List ℕ → ℕ → ℕ
 missing valences total = unwrap_or (option_map (λ v. v - total) (find (λ v. nat_le total v) valences)) 0
 
@@ -28,7 +28,7 @@ hydrogens_of Organic atom total =
 hydrogens_of (Table radicals) atom total = missing (table_valences atom.number atom.charge) (total + radicals)
 hydrogens_of (Fixed valence) atom total = valence - total
 
--- the atom with its hydrogens, where its bonds sum to the total
+-- the atom with its hydrogens, if its bonds have this sum
 abbrev pub filled_atom : ℕ → SketchAtom → SketchAtom
 filled_atom total atom = record atom { hydrogens = hydrogens_of atom.fill atom total }
 

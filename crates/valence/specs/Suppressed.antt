@@ -31,19 +31,19 @@ atom_is p atoms a = unwrap_or (option_map p (slice_get atoms a)) false
 abbrev pub is_heavy : List SketchAtom → ℕ → Bool
 is_heavy atoms a = atom_is (λ x. not (x.number == 1)) atoms a
 
--- a plain bond joins the atom a to an atom that is no hydrogen
+-- a plain bond joins the atom a to an atom that is not hydrogen
 abbrev pub leads_to_heavy : List SketchAtom → ℕ → SketchBond → Bool
 leads_to_heavy atoms a b = is_single_kind b.kind
     && (((b.a == a) && is_heavy atoms b.b) || ((b.b == a) && is_heavy atoms b.a))
 
--- The atom is taken away: hydrogen without isotope and charge, whose only bond is plain and leads to an atom that is no
--- hydrogen.
+-- The atom is taken away: hydrogen without isotope and charge, whose only bond is plain and leads to an atom that is
+-- not hydrogen.
 abbrev pub is_suppressed : SketchTerm → ℕ → Bool
 is_suppressed s a =
     atom_is is_plain_hydrogen s.atoms a
     && ((degree (sketch_ends s) a == 1) && list_any (leads_to_heavy s.atoms a) s.bonds)
 
--- of atoms of which those go, the place of an atom that stays among those that stay: how many before it do
+-- the new place of an atom that stays: the number of atoms before it that stay
 abbrev pub new_place : (ℕ → Bool) → ℕ → ℕ
 new_place goes a = count_by (λ k. not (goes k)) (range_with_len 0 a)
 
@@ -55,7 +55,7 @@ brings goes a b = ((b.a == a) && goes b.b) || ((b.b == a) && goes b.a)
 abbrev pub stays : (ℕ → Bool) → SketchBond → Bool
 stays goes b = not (goes b.a) && not (goes b.b)
 
--- the atoms that stay, in order, each with so many hydrogens more
+-- the atoms that stay, in order, each with the hydrogens that it gains
 abbrev pub staying_atoms : (ℕ → Bool) → (ℕ → ℕ) → List SketchAtom → List SketchAtom
 staying_atoms goes gain atoms = map (λ p. record p.1 { hydrogens = p.1.hydrogens + gain p.0 })
     (filter (λ p. not (goes p.0)) (enumerate_from 0 atoms))
@@ -68,11 +68,11 @@ renumbered place b = record b { a = place b.a; b = place b.b }
 abbrev pub staying_bonds : (ℕ → Bool) → (ℕ → ℕ) → List SketchBond → List SketchBond
 staying_bonds goes place bonds = map (renumbered place) (filter (stays goes) bonds)
 
--- how many of its neighbours are taken away
+-- the number of its neighbours that are taken away
 abbrev pub gained : SketchTerm → ℕ → ℕ
 gained s a = count_by (brings (is_suppressed s) a) s.bonds
 
--- what stays: atoms with the hydrogens that they gain, and bonds
+-- the rest: atoms with the hydrogens that they gain, and bonds
 abbrev pub suppressed : SketchTerm → SketchTerm
 suppressed s = record {
   atoms = staying_atoms (is_suppressed s) (gained s) s.atoms;

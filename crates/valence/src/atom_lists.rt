@@ -1,4 +1,4 @@
-//! Which atoms go, and where the others move: one list for each fact, by the atom's place.
+//! The atoms that go, and the new places of the others: one list for each fact, by the atom's place.
 ghost use Rattle.std.specs.Prelude.{◌≡◌, ◌≢◌, ◌<◌, ◌≤◌, ◌==◌, ◌&&◌, not, ℕ, length, count_by, slice_index, slice_index_or, false, All};
 ghost use Rattle.std.specs.List.{list_any};
 ghost use Rattle.chem_core.specs.Sketch.{ends_at};
@@ -6,14 +6,14 @@ ghost use Rattle.valence.specs.Suppressed.{is_single_kind, is_plain_hydrogen, le
 
 use chem_core::{MOST_ATOMS, MOST_NEIGHBOURS, SketchAtom, SketchBond, SketchKind};
 
-/// Whether some atom is hydrogen without isotope and charge: no other becomes a count.
+/// True if an atom is hydrogen without isotope and charge: no other becomes a count.
 pub(crate) fn has_plain_hydrogen(atoms: &[SketchAtom]) -> bool
     ensures { result ≡ list_any is_plain_hydrogen atoms.now }
 {
     atoms.iter().any(is_plain)
 }
 
-/// Whether each atom becomes a count at its neighbour.
+/// For each atom, true if it becomes a count at its neighbour.
 pub(crate) fn suppressed_atoms(atoms: &[SketchAtom], bonds: &[SketchBond]) -> [bool; MOST_ATOMS]
     requires few { length atoms.now ≤ MOST_ATOMS }
     requires in_range { All (λ b. (b.a < length atoms.now) × (b.b < length atoms.now)) bonds.now }
@@ -31,7 +31,7 @@ pub(crate) fn suppressed_atoms(atoms: &[SketchAtom], bonds: &[SketchBond]) -> [b
     goes
 }
 
-/// How many neighbours each atom has that go.
+/// The number of neighbours of each atom that go.
 pub(crate) fn gains(bonds: &[SketchBond], goes: &[bool]) -> [u8; MOST_ATOMS]
     requires long { length goes.now ≡ MOST_ATOMS }
     requires in_range { All (λ b. (b.a < MOST_ATOMS) × (b.b < MOST_ATOMS)) bonds.now }
@@ -49,7 +49,7 @@ pub(crate) fn gains(bonds: &[SketchBond], goes: &[bool]) -> [u8; MOST_ATOMS]
     gains
 }
 
-/// For each atom, how many atoms before it stay.
+/// For each atom, the number of atoms before it that stay.
 pub(crate) fn new_places(goes: &[bool]) -> [u16; MOST_ATOMS]
     requires { length goes.now ≤ MOST_ATOMS }
     ensures { (a : ℕ) → a < length goes.now
@@ -70,15 +70,15 @@ fn is_plain(atom: &SketchAtom) -> bool
     atom.number == 1 && atom.isotope == 0 && atom.charge == 0
 }
 
-// Whether the atom becomes a count: a plain hydrogen with one neighbour, where `leads` says that a single bond joins it
-// to a heavy atom.
+// True if the atom becomes a count: a plain hydrogen with one neighbour. `leads`: a single bond joins it to a heavy
+// atom.
 fn is_taken(atom: &SketchAtom, degree: u8, leads: bool) -> bool
     ensures { result ≡ (is_plain_hydrogen atom.now && ((degree == 1) && leads)) }
 {
     is_plain(atom) && degree == 1 && leads
 }
 
-// How many neighbours each atom has.
+// The number of neighbours of each atom.
 fn degrees(bonds: &[SketchBond]) -> [u8; MOST_ATOMS]
     requires in_range { All (λ b. (b.a < MOST_ATOMS) × (b.b < MOST_ATOMS)) bonds.now }
     requires distinct { All (λ b. b.a ≢ b.b) bonds.now }
@@ -93,7 +93,7 @@ fn degrees(bonds: &[SketchBond]) -> [u8; MOST_ATOMS]
     degrees
 }
 
-// Whether each atom has a plain bond to an atom that is no hydrogen.
+// For each atom, true if it has a plain bond to an atom that is not hydrogen.
 fn heavy_neighbours(atoms: &[SketchAtom], bonds: &[SketchBond]) -> [bool; MOST_ATOMS]
     requires few { length atoms.now ≤ MOST_ATOMS }
     requires in_range { All (λ b. (b.a < length atoms.now) × (b.b < length atoms.now)) bonds.now }
@@ -109,7 +109,7 @@ fn heavy_neighbours(atoms: &[SketchAtom], bonds: &[SketchBond]) -> [bool; MOST_A
     leads
 }
 
-// Whether a bond to the atom is plain, and the atom no hydrogen.
+// True if a bond to the atom is plain, and the atom not hydrogen.
 fn is_single_to_heavy(kind: SketchKind, atom: &SketchAtom) -> bool
     ensures { result ≡ (is_single_kind kind && not (atom.now.number == 1)) }
 {

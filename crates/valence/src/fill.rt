@@ -8,8 +8,8 @@ ghost use Rattle.valence.specs.Filled.{missing, missing_aromatic, hydrogens_of, 
 use crate::table::{charged, organic};
 use chem_core::{Fill, MOST_ATOMS, Sketch, SketchAtom, SketchBond};
 
-/// Counts the hydrogens that are not written: by the valences of the organic subset (OpenSMILES 1.0, section 3.1.5, and
-/// at aromatic atoms 3.5), by those of molfiles (CTfile formats), or by a written valence, as each atom says. Takes no
+/// Counts the hydrogens that are not written. Each atom says by which valences: those of the organic subset (OpenSMILES
+/// 1.0, section 3.1.5, and at aromatic atoms 3.5), those of molfiles (CTfile formats), or a written one. Takes no
 /// memory.
 pub fn fill_hydrogens(sketch: &mut Sketch)
     requires { IsSound sketch.old }
@@ -22,7 +22,7 @@ pub fn fill_hydrogens(sketch: &mut Sketch)
     fill(&mut sketch.atoms, &sums);
 }
 
-// For each atom, by its place, what its bonds sum to.
+// For each atom, by its place, the sum of its bonds.
 fn bond_sums(bonds: &[SketchBond]) -> [u8; MOST_ATOMS]
     requires in_range { All (λ b. (b.a < MOST_ATOMS) × (b.b < MOST_ATOMS)) bonds.now }
     requires distinct { All (λ b. b.a ≢ b.b) bonds.now }
@@ -38,7 +38,7 @@ fn bond_sums(bonds: &[SketchBond]) -> [u8; MOST_ATOMS]
     sums
 }
 
-// Gives each atom the hydrogens that it has where its bonds sum to this.
+// Gives each atom the hydrogens that it has if its bonds have this sum.
 fn fill(atoms: &mut [SketchAtom], sums: &[u8])
     requires long { length atoms.old ≤ length sums.now }
     requires few { (a : ℕ) → slice_index sums.now a ≤ 48 }
@@ -74,7 +74,7 @@ fn lacking(valences: &[u8], total: u8) -> u8
     valence.map_or(0, |v| *v - total)
 }
 
-// The same at an aromatic atom, which has one bond more: by the first valence alone.
+// As `lacking`, at an aromatic atom, which has one bond more: by the first valence alone.
 fn lacking_aromatic(valences: &[u8], total: u8) -> u8
     ensures { result ≡ missing_aromatic valences.now total }
 {

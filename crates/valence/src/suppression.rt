@@ -6,10 +6,10 @@ ghost use Rattle.valence.specs.Suppressed.{staying_atoms, staying_bonds, stays, 
 use crate::atom_lists::{gains, has_plain_hydrogen, new_places, suppressed_atoms};
 use chem_core::{MOST_NEIGHBOURS, Sketch, SketchAtom, SketchBond};
 
-/// Turns plain hydrogen atoms into counts at their neighbours, all at once: those without isotope and charge whose only
-/// bond has no symbol or `-`, and leads to an atom that is no hydrogen. The others stay, as the Daylight Theory Manual,
-/// chapter SMILES, wants of isotopes, charged hydrogens, and those joined to a hydrogen or to other than one atom.
-/// What stays keeps its order. Takes no memory.
+/// Turns plain hydrogen atoms into counts at their neighbours, all at once. These are without isotope and charge. Their
+/// only bond has no symbol or `-`, and leads to an atom that is not hydrogen. The others stay, as the Daylight Theory
+/// Manual, chapter SMILES, requires: isotopes, charged hydrogens, and those joined to a hydrogen or to other than one
+/// atom. The order is kept. Takes no memory.
 pub fn suppress(sketch: &mut Sketch)
     requires sound { IsSound sketch.old }
     requires few { All (λ a. a.hydrogens ≤ 15) sketch.old.atoms }
@@ -21,7 +21,7 @@ pub fn suppress(sketch: &mut Sketch)
     }
 }
 
-// The same, whatever the atoms are.
+// As `suppress`, whatever the atoms are.
 fn take_hydrogens(sketch: &mut Sketch)
     requires sound { IsSound sketch.old }
     requires few { All (λ a. a.hydrogens ≤ 15) sketch.old.atoms }
@@ -48,7 +48,7 @@ fn keep_atoms(atoms: &mut Vec<SketchAtom>, goes: &[bool], gains: &[u8])
     atoms.truncate(kept);
 }
 
-// Moves the atoms that stay to the front, with the hydrogens that they gain, and says how many these are.
+// Moves the atoms that stay to the front, with the hydrogens that they gain, and returns their number.
 fn to_front(atoms: &mut [SketchAtom], goes: &[bool], gains: &[u8]) -> usize
     requires goes { length atoms.old ≤ length goes.now }
     requires gains { length atoms.old ≤ length gains.now }

@@ -2,7 +2,7 @@
 ghost use Rattle.std.specs.Prelude.{◌≡◌};
 ghost use Rattle.valence.specs.Valence.{organic_valences, table_valences, cation_valences, anion_valences};
 
-/// The valences of the organic subset, ascending (OpenSMILES 1.0, section 3.1.5); none for every other element.
+/// The valences of the organic subset, ascending (OpenSMILES 1.0, section 3.1.5); empty for every other element.
 pub(crate) fn organic(number: u8) -> &'static [u8]
     ensures { result.now ≡ organic_valences number }
 {

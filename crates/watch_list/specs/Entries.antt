@@ -3,7 +3,7 @@ use Rattle.std.specs.Prelude.{◌<◌, Bool, length, List, map, nat_lt, Option, 
 use Rattle.std.specs.List.{list_all, position_from}
 use Rattle.watch_list.specs.Watches.{Watch, is_named}
 
--- a watch, and for how many hits there is room
+-- a watch, and the number of hits for which there is room
 pub record EntryTerm : Type 0 where
   pub watch : Watch
   pub room : ℕ
@@ -18,6 +18,6 @@ all_have_room entries = list_all (λ e. nat_lt (length e.watch.hits) e.room) ent
 abbrev pub watches_in : List EntryTerm → List Watch
 watches_in entries = map (λ e. e.watch) entries
 
--- where the watch of a name stands
+-- the place of the watch of a name
 abbrev pub place_of : List ℕ → List EntryTerm → Option ℕ
 place_of name entries = position_from (λ e. is_named name e.watch) 0 entries

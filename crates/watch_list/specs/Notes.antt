@@ -1,4 +1,4 @@
--- For callers: what a watch is after the commit of a version.
+-- For callers: a watch after the commit of a version.
 use Rattle.std.specs.Prelude.{◌≡◌, ◌≢◌, ◌↔◌, ◌+◌, ◌++◌, ◌∷◌, Contains, length, List, ℕ}
 use Rattle.std.specs.Arc.{arc_value}
 use Rattle.std.specs.List.Sorted.{IsStrictlyIncreasing}
@@ -26,15 +26,15 @@ LeavesMatch pattern (asked.Register r) = Matches pattern (arc_value r).mol
 LeavesMatch pattern (asked.Revise r) = Matches pattern (arc_value r).mol
 LeavesMatch pattern (asked.Withdraw id) = ⊥
 
--- a list over a change: the change's identifier is in it exactly where the pattern matches what the change leaves, and
--- each other as before
+-- a list over a change: the change's identifier is in it exactly if the change leaves a record that the pattern
+-- matches. Each other is as before
 pub record IsListAfter (pattern : PatternTerm) (change : Asked) (old new : List ℕ) : Type 0 where
   pub ascending : IsStrictlyIncreasing new
   pub own : Contains new (id_of (change_of change)) ↔ LeavesMatch pattern change
   pub others : (id : ℕ) → id ≢ id_of (change_of change) → Contains new id ↔ Contains old id
 
--- where the list was the hits of the version before, it is those of this version, in every history that has the change
--- as its commit
+-- if the list was the hits of the version before, it is those of this version. It is so in every history that has the
+-- change as its commit
 abbrev pub StaysRight : ℕ → Change → Watch → Watch → Type 0
 StaysRight version change old new = (h : History) → IsCommit h version change
     → AreHits h old.version (pattern_of old.pattern) old.hits → AreHits h version (pattern_of old.pattern) new.hits
@@ -45,8 +45,7 @@ pub record IsMoved (version : ℕ) (change : Asked) (old new : Watch) : Type 0 w
   pub list : IsListAfter (pattern_of old.pattern) change old.hits new.hits
   pub right : StaysRight version (change_of change) old new
 
--- a watch and what it is after the commit of a version: one at the version before is brought over it, any other is as
--- it was
+-- a watch after the commit of a version: one at the version before is brought over it, any other is as it was
 pub record IsNoted (version : ℕ) (change : Asked) (old new : Watch) : Type 0 where
   pub name : new.name ≡ old.name
   pub pattern : new.pattern ≡ old.pattern

@@ -5,8 +5,8 @@ use Rattle.std.specs.Str.{bytes_eq}
 use Rattle.smarts_parse.specs.declared.pattern.Pattern.{Pattern}
 use Rattle.watch_list.specs.declared.list.TheConstants.{MOST_WATCHES}
 
--- a watch: its name, its pattern, the version of its list, the list of its hits, and how often it was given another
--- list
+-- a watch: its name, its pattern, the version of its list, the list of its hits, and the number of other lists that it
+-- was given
 pub record Watch : Type 0 where
   pub name : List ℕ
   pub pattern : Pattern
@@ -19,7 +19,7 @@ pub record WatchesTerm : Type 0 where
   pub watches : List Watch
   pub reserved : Bool
 
--- at most as many as may be watched at once, with distinct names
+-- at most MOST_WATCHES watches, with distinct names
 pub record AreWatches (watches : List Watch) : Type 0 where
   pub few : length watches ≤ MOST_WATCHES
   pub distinct : AllPairs (λ x y. x ≢ y) (map (λ w. w.name) watches)

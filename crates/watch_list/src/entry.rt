@@ -16,8 +16,8 @@ use std::marker::Model;
 use store_core::Change;
 use store_machine::{commits_change, snapshots_stay};
 
-/// A pattern that is watched under a name, with its hits at a version, ascending, and how often another list was filled
-/// in. Contracts see the watch, and for how many hits there is room.
+/// A pattern that is watched under a name, with its hits at a version, ascending, and the number of other lists that
+/// were filled in. Contracts see the watch, and the number of hits for which there is room.
 #[derive(Drop)]
 pub struct Entry {
     name: Vec<u8>,
@@ -98,7 +98,7 @@ impl Entry {
         &self.hits
     }
 
-    /// How often another list was filled in.
+    /// The number of other lists that were filled in.
     pub fn fills(&self) -> u32
         ensures { result ≡ self.now.watch.fills }
     {
@@ -123,7 +123,7 @@ impl Entry {
         self.hits.reserve(1)
     }
 
-    /// Goes on to a version by its commit, where its list is of the version before. Takes no memory.
+    /// Goes on to a version by its commit, if its list is of the version before. Takes no memory.
     pub fn note(&mut self, version: u32, change: &Change, scratch: &mut Scratch)
         requires some { 1 ≤ version }
         requires room { HasRoom self.old }

@@ -1,4 +1,4 @@
-//! What a change does to a list of hits.
+//! The effect of a change on a list of hits.
 ghost use Rattle.std.specs.Prelude.{◌≡◌, ◌≢◌, ◌<◌, ◌↔◌, Contains, IsTrue, vec_capacity, vec_len, ℕ};
 ghost use Rattle.std.specs.List.Sorted.{IsStrictlyIncreasing};
 ghost use Rattle.smarts_parse.specs.Pattern.{pattern_of};
@@ -22,7 +22,7 @@ pub fn update(hits: &mut Vec<u32>, pattern: &Pattern, change: &Change, scratch: 
     place(hits, change.id(), is_hit);
 }
 
-// Whether the change leaves a record that the pattern matches.
+// True if the change leaves a record that the pattern matches.
 fn leaves_match(change: &Change, pattern: &Pattern, scratch: &mut Scratch) -> bool
     requires { IsSoundPattern (pattern_of pattern.now) }
     ensures { IsTrue result ↔ LeavesMatch (pattern_of pattern.now) change.now }
@@ -33,7 +33,7 @@ fn leaves_match(change: &Change, pattern: &Pattern, scratch: &mut Scratch) -> bo
     }
 }
 
-// Puts an identifier into the list where it is a hit, and takes it out where it is not.
+// Puts an identifier into the list if it is a hit, and takes it out if it is not.
 fn place(hits: &mut Vec<u32>, id: u32, is_hit: bool)
     requires ascending { IsStrictlyIncreasing hits.old.items }
     requires room { vec_len hits.old < vec_capacity hits.old }

@@ -59,7 +59,7 @@ impl Watches {
         }
     }
 
-    /// How many there are, at most 16. Takes no memory.
+    /// The number of watches, at most 16. Takes no memory.
     pub fn len(&self) -> usize
         ensures { result ≡ length self.now.watches }
     {
@@ -67,7 +67,7 @@ impl Watches {
     }
 
     /// One watch more: a pattern under a new name, with a list of hits at a version. Fails only for want of memory;
-    /// then the watches are as they were. What was reserved may be used up.
+    /// then the watches are as they were. Reserved memory may be used up.
     pub fn add(
         &mut self,
         name: &[u8],
@@ -89,7 +89,7 @@ impl Watches {
         Ok(())
     }
 
-    /// Takes the watch of a name out: `false` exactly where there is none. Takes no memory.
+    /// Takes the watch of a name out: `false` exactly if it is missing. Takes no memory.
     pub fn remove(&mut self, name: &[u8]) -> bool
         ensures watched { result ≡ is_some (watch_of name.now self.old.watches) }
         ensures watches { self.new.watches ≡ filter (is_other name.now) self.old.watches }
@@ -111,7 +111,7 @@ impl Watches {
     }
 
     /// Brings each watch that is at the version before over the commit of a version, from 1 on, by one match. The
-    /// others stay. Takes no memory, and may use up what was reserved.
+    /// others stay. Takes no memory, and may use up reserved memory.
     pub fn note(&mut self, version: u32, change: &Change)
         requires some { 1 ≤ version }
         requires reserved { self.old.reserved ≡ true }
@@ -122,7 +122,7 @@ impl Watches {
         }
     }
 
-    /// The version and the hits of the watch of a name. `None` exactly where there is none. Takes no memory.
+    /// The version and the hits of the watch of a name. `None` exactly if it is missing. Takes no memory.
     pub fn list(&self, name: &[u8]) -> Option<(u32, &[u32])>
         ensures list { option_map answered result ≡ option_map list_of (watch_of name.now self.now.watches) }
         ensures ascending { IfSome result (λ r. IsStrictlyIncreasing r.1.now) }
@@ -131,7 +131,7 @@ impl Watches {
         Some((entry.version(), entry.hits()))
     }
 
-    /// The pattern of the watch of a name. `None` exactly where there is none. Takes no memory.
+    /// The pattern of the watch of a name. `None` exactly if it is missing. Takes no memory.
     pub fn pattern(&self, name: &[u8]) -> Option<&Pattern>
         ensures pattern { option_copied result
             ≡ option_map (λ (w : Watch). w.pattern) (watch_of name.now self.now.watches) }
@@ -141,8 +141,8 @@ impl Watches {
         Some(entry.pattern())
     }
 
-    /// How often `fill` gave the watch of a name another list: 4,294,967,295 stands for that often and more. `None`
-    /// exactly where there is none. Takes no memory.
+    /// The number of times that `fill` gave the watch of a name another list; the count stays at 4,294,967,295. `None`
+    /// exactly if the watch is missing. Takes no memory.
     pub fn fills(&self, name: &[u8]) -> Option<u32>
         ensures { result ≡ option_map (λ (w : Watch). w.fills) (watch_of name.now self.now.watches) }
     {
@@ -150,8 +150,8 @@ impl Watches {
         Some(entry.fills())
     }
 
-    /// Gives the watch of a name another list, of a version, and counts it. All else stays, but what was reserved may
-    /// be used up. Takes no memory.
+    /// Gives the watch of a name another list, of a version, and counts it. All else stays, but reserved memory may be
+    /// used up. Takes no memory.
     pub fn fill(&mut self, name: &[u8], version: u32, hits: Vec<u32>)
         requires watched { IsSome (watch_of name.now self.old.watches) }
         requires ascending { IsStrictlyIncreasing hits.items }
@@ -171,7 +171,7 @@ fn entry_of<'e>(entries: &'e [Entry], name: &[u8]) -> Option<&'e Entry>
     entries.iter().find(|entry| entry.is_named(name))
 }
 
-// Where it stands.
+// The place of the watch of a name.
 fn place_of(entries: &[Entry], name: &[u8]) -> Option<usize>
     ensures { result ≡ place_of name.now entries.now }
 {

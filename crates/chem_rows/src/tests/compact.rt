@@ -1,4 +1,4 @@
-//! Compactions: what is written, while others work, and where a disk stops or fails at a call of one.
+//! Compactions: their bytes, other work during one, and a disk that stops or fails at a call of one.
 
 use super::{MEM, Made, ONE_COMMIT, Script, check, check_each, run_leaves};
 use std::test::Fail;
@@ -116,8 +116,8 @@ const COMPACTED_TWICE: &[u8] =
     b"ZCHEMDB2\x02\0\0\0\x02\0\0\0\x02\0\0\0\x0d\0\0\0\x04\x01\0\0\0\x01\0\0\0\x01CCO\
     \x0b\0\0\0\x04\x02\0\0\0\x02\0\0\0\x01C\0";
 
-// What is on the second disk beside a store of one commit, a script, and what `run` of it leaves: the status, the place
-// of damage, the replies, and what is on both disks.
+// The bytes on the second disk beside a store of one commit, and a script. Then the outcome of `run`: the status, the
+// place of damage, the replies, and the bytes on both disks.
 type Step = (
     &'static [u8],
     &'static str,
@@ -199,8 +199,8 @@ fn a_store_is_compacted(rt: HostRuntime) -> Result<(), Fail> {
     Ok(())
 }
 
-// The answer of a finish where the disk is stopped after so many calls of it, and the generation of the compaction
-// behind a crash that left the image of this number.
+// The answer of a finish, by the number of calls after which the disk is stopped. Then the generation of the compaction
+// after a crash that left the image of this number.
 const FINISHES: &[(&str, &[u32])] = &[
     ("fault disk sure", &[1, 1, 1, 1]),
     ("fault disk sure", &[1, 1, 1, 1]),

@@ -224,7 +224,7 @@ pub(super) const MADE: &[Made] = &[
     ),
 ];
 
-// Words, how many structures there are, and how many a page has.
+// Words, the number of structures, and the number in a page.
 const PAGES: &[(&[&str], u32, u32)] = &[
     (MEM, 257, 256),
     (MEM, 256, 256),
@@ -232,7 +232,7 @@ const PAGES: &[(&[&str], u32, u32)] = &[
     (&["mem", "--page", "7", "--workers", "16"], 257, 7),
 ];
 
-// A cursor tells of more behind each page but the last.
+// A cursor reports more after each page but the last.
 #[test]
 fn pages(rt: HostRuntime) -> Result<(), Fail> {
     for &(words, count, page) in PAGES {
@@ -242,7 +242,7 @@ fn pages(rt: HostRuntime) -> Result<(), Fail> {
     Ok(())
 }
 
-// So many structures, and a cursor over pages of so many.
+// `count` structures, and a cursor over pages of `page`.
 fn paged(alloc: Global, count: u32, page: u32) -> Result<String, AllocError> {
     let mut lines = String::new(alloc);
     for id in 1..=count {

@@ -7,7 +7,7 @@ use std::sync::Wait;
 use std::test::Fail;
 use std::thread::Threads;
 
-// The command, its script, the status, the replies, and what is on the first disk then.
+// The command, its script, the status, the replies, and the bytes on the first disk then.
 const USES: &[(&str, &str, u8, &str, &[u8])] = &[
     ("init", "", 0, "", b"ZCHEMDB1\0"),
     ("run", "register 1 CCO\n", 0, "ok 1\n", ONE_COMMIT),
@@ -39,7 +39,7 @@ fn a_store_is_made_and_used_and_used_again(rt: HostRuntime) -> Result<(), Fail> 
 
 const COUNTS: &str = "stats version 0 live 0 withdrawn 0 kept 0 pins 0\n";
 
-// The bytes, the status, the place of damage, and what `stats` is answered.
+// The bytes, the status, the place of damage, and the reply to `stats`.
 const BYTES: &[(&[u8], u8, u64, &str)] = &[
     (b"ZCHEMDB1\0", 0, 0, COUNTS),
     (b"", 6, 0, ""),
@@ -48,13 +48,13 @@ const BYTES: &[(&[u8], u8, u64, &str)] = &[
     (b"ZCHEMDB2\0", 6, 0, ""),
     (b"ZCHEMDB1", 7, 8, ""),
     (b"ZCHEMDB1Z\x01\0\0\0\x04\0", 7, 8, ""),
-    // cut within the commit, and behind it
+    // cut within the commit, and after it
     (b"ZCHEMDB1Z\x09\0\0\0\x01\x01\0\0\0\x01CC", 7, 8, ""),
     (b"ZCHEMDB1Z\x09\0\0\0\x01\x01\0\0\0\x01CCO", 7, 22, ""),
     // an empty payload, and one that is a byte too long
     (b"ZCHEMDB1Z\0\0\0\0\0", 7, 8, ""),
     (b"ZCHEMDB1Z\x01\0\x10\0", 7, 8, ""),
-    // open gates behind a closed one
+    // open gates after a closed one
     (
         b"ZCHEMDB1\0\
             ZZZZZZZZZZZZZZZZZZZZZZZZZZZZZZZZZZZZZZZZZZZZZZZZZZ\
@@ -109,7 +109,7 @@ const BY_ANOTHER_HAND: &[(&[u8], u8, u64, &str)] = &[
         0,
         "refused absent\nstats version 1 live 1 withdrawn 0 kept 1 pins 0\n",
     ),
-    // a withdrawal with a text, one of what is absent, and a registration of what was withdrawn
+    // a withdrawal with a text, one of an absent identifier, and a registration of a withdrawn one
     (b"ZCHEMDB1Z\x06\0\0\0\x03\x01\0\0\0\x01\0", 7, 8, ""),
     (b"ZCHEMDB1Z\x05\0\0\0\x03\x01\0\0\0\0", 7, 8, ""),
     (
@@ -118,7 +118,7 @@ const BY_ANOTHER_HAND: &[(&[u8], u8, u64, &str)] = &[
         30,
         "",
     ),
-    // a record behind a closed gate
+    // a record after a closed gate
     (b"ZCHEMDB1\0Z\x07\0\0\0\x01\x01\0\0\0\x01C\0", 0, 0, ABSENT),
     // a molfile whose last line has no line feed is shown with one
     (
@@ -130,7 +130,7 @@ const BY_ANOTHER_HAND: &[(&[u8], u8, u64, &str)] = &[
     ),
 ];
 
-// Scripts, and what they are run over.
+// Scripts, and the stores that they are run over.
 const RUNS: &[(&str, &[(&[u8], u8, u64, &str)])] = &[
     ("stats\n", BYTES),
     ("show 1\nstats\n", BY_ANOTHER_HAND),
@@ -150,7 +150,7 @@ fn bytes_that_are_run(rt: HostRuntime) -> Result<(), Fail> {
     Ok(())
 }
 
-// How many registrations a script of three had, by its replies.
+// The number of registrations of a script of three that were acknowledged, by its replies.
 fn acknowledged(replies: &[u8]) -> usize {
     let mut count = 0usize;
     for line in replies.split(|b| *b == b'\n') {
@@ -161,7 +161,7 @@ fn acknowledged(replies: &[u8]) -> usize {
     count
 }
 
-// The version of the store on a disk, where there is one.
+// The version of the store on a disk, if there is one.
 fn version_of<R: Threads + Wait + Sync>(
     rt: &R,
     alloc: Global,
@@ -175,7 +175,7 @@ fn version_of<R: Threads + Wait + Sync>(
     Ok(Some(digit.saturating_sub(b'0') as usize))
 }
 
-// Stores, and how many commits they have.
+// Stores, and the number of their commits.
 const BEGUN: &[(&[u8], usize)] = &[
     (b"ZCHEMDB1\0", 0),
     (
@@ -184,8 +184,8 @@ const BEGUN: &[(&[u8], usize)] = &[
     ),
 ];
 
-// Whether three registrations over a store whose disk's call of this number fails leave what they should: the image of
-// this number loads to the commits that there were and that were acknowledged, and at most one more.
+// True if three registrations lose nothing, over a store whose disk's call of this number fails. The image of this
+// number then loads to the old commits, the acknowledged ones, and at most one more.
 fn is_kept<R: Threads + Wait + Sync>(
     rt: &R,
     alloc: Global,
@@ -269,7 +269,7 @@ fn each_end_has_the_status_of_a_store_that_is_not_loaded(rt: HostRuntime) -> Res
     Ok(())
 }
 
-// The command, whether it makes the files, the script, the status, and what was put.
+// The command, whether it makes the files, the script, the status, and the bytes that were put.
 const COMMANDS: &[(&str, bool, &str, u8, &str)] = &[
     ("run", false, "stats\n", 5u8, ""),
     ("init", true, "", 0, ""),

@@ -10,7 +10,7 @@ use std::sync::Wait;
 use std::test::Fail;
 use std::thread::Threads;
 
-// Lines with their replies: none, one, several, and those of a molfile.
+// Lines with their replies: no reply, one, several, and those of a molfile.
 const TURNS: &[(&str, &str)] = &[
     ("register 1 CO\n", "ok 1\n"),
     ("\n", ""),
@@ -25,8 +25,7 @@ const TURNS: &[(&str, &str)] = &[
     ),
 ];
 
-// A session over them in these ways has this status, and the replies to those that are taken whole where so many bytes
-// are taken.
+// A session over them in these ways has this status, and the replies to the whole lines among the first `taken` bytes.
 fn ends<R: Abort + Threads + Wait + Sync>(
     rt: &R,
     alloc: Global,
@@ -83,7 +82,7 @@ fn each_put_and_each_take_fails_in_turn(rt: HostRuntime) -> Result<(), Fail> {
     Ok(())
 }
 
-// Whether a session over two lines that takes no more bytes than this ends so, and puts these replies.
+// True if a session over two lines that takes no more bytes than this ends so, and puts these replies.
 fn ends_within<R: Threads + Sync>(
     rt: &R,
     alloc: Global,
@@ -103,7 +102,7 @@ const ONCE: &str = "stats version 0 live 0 withdrawn 0 kept 0 pins 0\n";
 const TWICE: &str = "stats version 0 live 0 withdrawn 0 kept 0 pins 0\n\
     stats version 0 live 0 withdrawn 0 kept 0 pins 0\n";
 
-// How many bytes may be taken, how a session ends, and its replies.
+// The number of bytes that may be taken, the end status of a session, and its replies.
 const LIMITS: &[(u64, EndStatus, &str)] = &[
     (6, EndStatus::InputTooLong, ONCE),
     (12, EndStatus::InputTooLong, TWICE),

@@ -9,13 +9,13 @@ use std::thread::{Threads, join_mut};
 use std::time::{Clock, Duration};
 use turn_gate::{Gate, Pass, Stands, Worn};
 
-/// How many marks were made under this gate.
+/// The number of marks that were made under this gate.
 #[derive(Drop)]
 struct Tally {
     marks: u64,
 }
 
-/// A mark by a number of a pass, and how many there are with it.
+/// A mark by a number of a pass, and the number of marks with it.
 struct Mark {
     by: u64,
     count: u64,
@@ -26,7 +26,7 @@ impl Stands for Tally {
 
     type Event = Mark;
 
-    // How many marks were made elsewhere, which the tally does not know.
+    // The number of marks that were made elsewhere, which the tally does not know.
     type Origin = u64;
 
     ghost stands = { λ elsewhere t marks. t.marks ≡ length marks };
@@ -36,7 +36,7 @@ impl Stands for Tally {
     ghost number = { λ m. m.by };
 }
 
-// Makes a mark in a turn that takes so long, or says that all turns were taken.
+// Makes a mark in a turn that takes this time, or returns that all turns were taken.
 fn make_mark<R: Wait + Clock>(
     rt: &R,
     gate: &Gate<Tally>,
@@ -60,7 +60,7 @@ fn make_mark<R: Wait + Clock>(
     Ok(())
 }
 
-// Makes so many marks, each tenth in a turn that takes a millisecond.
+// Makes `count` marks, each tenth in a turn that takes a millisecond.
 fn make_marks<R: Wait + Clock>(rt: &R, gate: &Gate<Tally>, pass: &mut Pass<Tally>, count: u64)
     requires of { IsOf gate.now pass.old }
     ensures of { IsOf gate.now pass.new }
@@ -75,7 +75,7 @@ fn make_marks<R: Wait + Clock>(rt: &R, gate: &Gate<Tally>, pass: &mut Pass<Tally
     }
 }
 
-// Makes so many marks in each of two threads.
+// Makes `count` marks in each of two threads.
 fn mark_both<R: Threads + Wait + Clock + Sync>(
     rt: &R,
     gate: &Gate<Tally>,

@@ -1,4 +1,4 @@
-//! Lookups: what is the same structure, and what is most similar.
+//! Lookups: equal structures, and the most similar ones.
 use super::{MEM, Made, Script, check_each};
 use std::test::Fail;
 
@@ -133,8 +133,8 @@ const SCRIPTS: &[Script] = &[
         < stats version 3 live 1 withdrawn 1 kept 3 pins 0\n\
         ",
     ),
-    // What is the same is named by the least identifier, in the order of identifiers and not of registration, whatever
-    // the format of its text.
+    // An equal structure is named by the least identifier, in the order of identifiers and not of registration,
+    // whatever the format of its text.
     (
         "the least that is the same is named",
         MEM,
@@ -165,7 +165,7 @@ const SCRIPTS: &[Script] = &[
         < end at 3 scored 3 hits 2\n\
         ",
     ),
-    // A cursor is where it was, and lists what its version has, whatever is looked up between its pages.
+    // A cursor keeps its place, and lists the hits of its version, whatever is looked up between its pages.
     (
         "no cursor is moved by a lookup",
         &["mem", "--page", "1"],

@@ -1,4 +1,4 @@
-//! Patterns: what they find, what is tried, and what is refused.
+//! Patterns: their hits, their candidates, and their refusals.
 
 use super::{MEM, Made, Script, check, check_each, check_with};
 use std::test::Fail;
@@ -325,7 +325,7 @@ fn scripts(rt: HostRuntime) -> Result<(), Fail> {
     check_each(&rt, rt.alloc(), SCRIPTS)
 }
 
-// No reply depends on how many workers a search has, or on the records of its pages.
+// No reply depends on the number of workers of a search, or on the records of its pages.
 #[test]
 fn scripts_with_workers_and_pages(rt: HostRuntime) -> Result<(), Fail> {
     check_with(&rt, rt.alloc(), &["mem", "--workers", "16"], SCRIPTS)?;
@@ -352,7 +352,7 @@ pub(super) const MADE: &[Made] = &[(
     ],
 )];
 
-// A group so many times, a part so many times, and the hits.
+// A group, its number, a part, its number, and the hits.
 const MANY: &[(&str, usize, &str, usize, u32)] = &[
     ("([C])", 20, "C", 30, 1),
     ("([C])", 21, "C", 20, 0),
@@ -383,7 +383,7 @@ fn many_groups_are_searched_for(rt: HostRuntime) -> Result<(), Fail> {
     Ok(())
 }
 
-// Appends a text so many times, with dots between.
+// Appends a text `count` times, with dots between.
 fn push_dotted(out: &mut String, text: &str, count: usize) -> Result<(), Fail> {
     for place in 0..count {
         if place > 0 {

@@ -5,7 +5,7 @@ use path_print::{need, print};
 use smarts_parse::parse;
 use std::test::Fail;
 
-// Whether the print has these bits and no others.
+// True if the print has these bits and no others.
 fn has(print: &Print, bits: &[u16]) -> bool {
     for bit in bits {
         if !print.has(*bit) {

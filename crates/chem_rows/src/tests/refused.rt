@@ -1,4 +1,4 @@
-//! Lines that are refused, and those behind them.
+//! Lines that are refused, and the lines after them.
 use super::{MEM, Made, Piece, Script, Ways, answers, check_each, made};
 use std::test::Fail;
 
@@ -158,8 +158,8 @@ pub(super) const MADE: &[Made] = &[(
     )],
 )];
 
-// Lines of the most bytes and of more: alone, in a molfile, and in the molfile of a line that is refused for itself.
-// What begins `M  END` does not end a molfile where it is too long.
+// Lines of the most bytes and of more: alone, in a molfile, and in the molfile of a line that is refused for itself. A
+// line that begins `M  END` does not end a molfile if it is too long.
 const LONG_LINES: &[Piece] = &[
     (b"x", 1, 65_537),
     (b"\nregister 1 ", 1, 1),
@@ -187,7 +187,7 @@ const LONG_REPLIES: &[u8] =
     b"refused long\nrefused smiles limit\nrefused smiles limit\nok 1\nrefused smarts limit\n\
     hit 1\nend at 1 tried 1 hits 1\nrefused long\nrefused long\nrefused smiles syntax\nrefused smarts syntax\n";
 
-// How many bytes a take gives at most.
+// The greatest number of bytes that a take gives.
 const TAKES: &[usize] = &[1, 7, 65_536];
 
 #[test]

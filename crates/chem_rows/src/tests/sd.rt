@@ -264,7 +264,7 @@ const GOOD: &[Piece] = &[
     (b"\n$$$$\n", 1, 1),
 ];
 
-// A script: what it is about, its pieces with how often each stands, and its replies.
+// A script: its subject, its pieces with the number of each, and its replies.
 type Sum = (
     &'static str,
     &'static [(&'static [Piece], u32)],

@@ -1,4 +1,4 @@
-//! `serve` over disks in memory: the replies to two scripts, and what the disks hold afterwards.
+//! `serve` over disks in memory: the replies to two scripts, and the bytes of the disks afterwards.
 use super::{Answer, ONE_COMMIT, PLAIN, call_each, disk_of, put_by, run};
 use disk_edge::MemDisk;
 use std::alloc::{AllocError, Global};
@@ -22,7 +22,7 @@ fn serve_two<R: Threads + Wait + Sync>(
     call_each(rt, alloc, &words, scripts, PLAIN, disks)
 }
 
-// The replies to the end of this number; none if there is no such end.
+// The replies to the end of this number; empty if there is no such end.
 fn put_to(answer: &Answer, number: usize) -> &[u8] {
     match answer.ends.get(number) {
         Some(end) => end.sink.bytes(),
@@ -63,7 +63,7 @@ fn told(answer: &Answer, number: usize) -> Option<u8> {
     }
 }
 
-// Whether the reply to a `show` is a record of this version. Without a version any reply will do.
+// True if the reply to a `show` is a record of this version. Without a version any reply will do.
 fn shows(line: &[u8], version: Option<u8>) -> bool {
     match version {
         Some(digit) => line.starts_with(b"record ") && line.get(17) == Some(&digit),
@@ -86,9 +86,9 @@ fn acknowledged(answer: &Answer) -> Option<usize> {
     2_usize.checked_sub(faults).filter(|sure| *sure > 0)
 }
 
-// Each of two ends registers a structure over a disk whose call of this number fails; then the disk loses power, and
-// `image` is what it holds. Returns the number of registrations that were acknowledged if they are there after that,
-// and `None` if one is missing. Where the first opening failed, it returns 0 if no end had a reply.
+// Each of two ends registers a structure over a disk whose call of this number fails. Then the disk loses power, and
+// holds `image`. Returns the number of acknowledged registrations if they are there after that, and `None` if one is
+// missing. If the first opening failed, it returns 0 if no end had a reply.
 fn kept<R: Threads + Wait + Sync>(
     rt: &R,
     alloc: Global,
@@ -122,7 +122,7 @@ fn kept<R: Threads + Wait + Sync>(
     })
 }
 
-// More calls than are made, so that none fails.
+// More calls than are made, so that no call fails.
 const NEVER: u64 = 1_000;
 
 #[test]

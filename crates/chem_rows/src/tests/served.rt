@@ -1,7 +1,7 @@
 //! Scripts that are served at the same time over one store in memory.
 //!
-//! Ends and searches wait for each other by how much has happened so far: each reply that was put and each search that
-//! began to match counts one. A wait gives up after 10,000,000 turns, which fails the test.
+//! Ends and searches wait for each other by a count of events. Each reply that was put and each search that began to
+//! match counts one. A wait gives up after 10,000,000 turns, which fails the test.
 ghost use Rattle.std.specs.Prelude.{◌≤◌};
 
 use hall::Hall;
@@ -19,12 +19,12 @@ use std::thread::Threads;
 use store_core::Service;
 use store_disk::Store;
 
-// How much has happened so far, and how many waits gave up.
+// The count of events so far, and the number of waits that gave up.
 #[derive(Drop)]
 struct Meeting {
     happened: AtomicU32,
     gave_up: AtomicU32,
-    // How much has to have happened before a search that began to match goes on.
+    // The count of events after which a search that began to match goes on.
     search_until: u32,
 }
 
@@ -37,7 +37,7 @@ impl Meeting {
         }
     }
 
-    // Waits until so much has happened, up to a limit of turns.
+    // Waits until the count of events is `count`, up to a limit of turns.
     fn wait_until(&self, count: u32) {
         for _turn in 0..10_000_000 {
             if self.happened.load(Ordering::SeqCst) >= count {
@@ -49,7 +49,7 @@ impl Meeting {
     }
 }
 
-// Tells that a search began to match, and holds it.
+// Counts a search that began to match, and holds it.
 impl Meter for Meeting {
     fn begin(&self, _piece: u32) {
         self.happened.fetch_add(1, Ordering::SeqCst);
@@ -57,7 +57,7 @@ impl Meter for Meeting {
     }
 }
 
-// What an end asks: its first lines once so much has happened, and the rest once more has.
+// The script of an end: its first lines at a count of events, and the rest at a greater one.
 #[derive(Clone, Copy)]
 struct Script<'a> {
     lines_after: u32,
@@ -95,7 +95,7 @@ impl Source for Asker {
     }
 }
 
-// Tells the meeting of each reply.
+// Counts each reply at the meeting.
 #[derive(Drop)]
 struct Teller {
     text: MemSink,
@@ -116,7 +116,7 @@ impl Sink for Teller {
     }
 }
 
-// An end with a script, of which no take gives more than the first lines.
+// An end with a script. No take of it gives more than the first lines.
 fn end(
     alloc: Global,
     script: Script<'_>,
@@ -141,8 +141,8 @@ fn end(
     })
 }
 
-// Serves ends over an empty store. Returns them, and how many commits the store has then, if no wait gave up and each
-// pin was given back.
+// Serves ends over an empty store. Returns them and the number of commits of the store, if no wait gave up and each pin
+// was given back.
 fn serve<R: Threads + Wait + Sync>(
     rt: &R,
     alloc: Global,
@@ -175,7 +175,7 @@ fn serve<R: Threads + Wait + Sync>(
 }
 
 // An end that registers methane under identifiers from a first to a last, and then shows the last. It gives its second
-// line once as many replies were put as there are ends.
+// line once there is a reply for each end.
 fn registering(
     alloc: Global,
     first: u32,
@@ -198,7 +198,7 @@ fn registering(
     end(alloc, script, meeting)
 }
 
-// How many versions were told, and the last of them, where each is greater than the one before.
+// The number of versions in the replies, and the last of them, if each is greater than the one before.
 fn rising(told: &str) -> Option<(u16, u32)> {
     let mut count = 0_u16;
     let mut last = 0;
@@ -213,7 +213,7 @@ fn rising(told: &str) -> Option<(u16, u32)> {
     Some((count, last))
 }
 
-// Whether an end is done, and was told a greater version for each of its identifiers, and shown the last so.
+// True if an end is done, its replies have a greater version for each of its identifiers, and `show` gives the last.
 fn has_registered(
     alloc: Global,
     end: &End<Asker, Teller>,
@@ -239,7 +239,7 @@ fn identifiers(number: u16, each: u16) -> (u32, u32) {
     (first, first + u32::from(each.saturating_sub(1)))
 }
 
-// Whether so many ends that register so many identifiers each are served at the same time, with so many commits.
+// True if `count` ends that register `each` identifiers each are served at the same time, with `commits` commits.
 fn serves<R: Threads + Wait + Sync>(
     rt: &R,
     alloc: Global,
@@ -262,7 +262,7 @@ fn serves<R: Threads + Wait + Sync>(
     Ok(holds)
 }
 
-// How many ends there are, how many identifiers each has, and how many commits there are then.
+// The number of ends, of identifiers of each, and of commits then.
 const ENDS: &[(u16, u16, u32)] = &[(2, 100, 200), (3, 10, 30), (16, 2, 32)];
 
 // Each end waits after its first line until all have been answered.
@@ -277,7 +277,7 @@ fn ends_are_served_at_the_same_time(rt: HostRuntime) -> Result<(), Fail> {
     Ok(())
 }
 
-// How much has to have happened before a search goes on, and the ends with their replies.
+// The count of events before a search goes on, and the ends with their replies.
 type Served = (u32, &'static [(Script<'static>, &'static str)]);
 
 const BESIDE: &[Served] = &[
@@ -330,7 +330,7 @@ const BESIDE: &[Served] = &[
     ),
 ];
 
-// Whether ends that are served have their replies, and are done.
+// True if ends that are served have their replies, and are done.
 fn replies_are<R: Threads + Wait + Sync>(
     rt: &R,
     alloc: Global,
@@ -350,8 +350,8 @@ fn replies_are<R: Threads + Wait + Sync>(
     Ok(holds)
 }
 
-// A search that began to match is held until another end has committed: it holds no turn. A cursor lists what was
-// there at its opening, though another end has revised that and pruned.
+// A search that began to match is held until another end has committed: it holds no turn. A cursor lists the hits at
+// its opening, though another end has revised these and pruned.
 #[test]
 fn an_end_sees_its_version_while_another_commits(rt: HostRuntime) -> Result<(), Fail> {
     for &(search_until, rows) in BESIDE {
@@ -363,7 +363,8 @@ fn an_end_sees_its_version_while_another_commits(rt: HostRuntime) -> Result<(), 
     Ok(())
 }
 
-// The first half of what a search with two workers tries is held until its other half has begun, behind 128 replies.
+// The first half of the candidates of a search with two workers is held until its other half has begun, after 128
+// replies.
 #[test]
 fn two_workers_search_in_two_threads(rt: HostRuntime) -> Result<(), Fail> {
     let alloc = rt.alloc();
@@ -395,12 +396,12 @@ fn two_workers_search_in_two_threads(rt: HostRuntime) -> Result<(), Fail> {
 // Four cursors of an end.
 const OPENS: &str = "open a C\nopen b C\nopen c C\nopen d C\n";
 
-// What an end is answered that opens four, and what the first end is answered that then searches.
+// The replies to an end that opens four cursors, and to the first end, which then searches.
 const OPENED: &str = "opened 0\nopened 0\nopened 0\nopened 0\n";
 
 const NO_PIN_IS_LEFT: &str = "opened 0\nopened 0\nopened 0\nopened 0\nrefused pins\n";
 
-// Sixteen ends have 64 cursors, so a search is refused. They close none: each end's pins are given back as it ends.
+// Sixteen ends have 64 cursors, so a search is refused. They are not closed: each end's pins are given back as it ends.
 #[test]
 fn ends_leave_their_cursors_open(rt: HostRuntime) -> Result<(), Fail> {
     let alloc = rt.alloc();

@@ -138,7 +138,7 @@ const PLAIN_CARBON: &str = "ok 1\nhit 1\nend at 1 tried 1 hits 1\n";
 
 const FIRST: &str = "refused smiles aromatic 0\nend at 0 tried 0 hits 0\n";
 
-// Structures, and what is put where they are registered and searched for plain carbon atoms.
+// Structures, and the replies if they are registered and searched for plain carbon atoms.
 const FORMS: &[(&str, &str)] = &[
     ("C1=CC=CC=C1", NONE),
     ("n1ccccc1", NONE),

@@ -9,8 +9,7 @@ use std::sync::Arc;
 use std::sync::atomic::{AtomicU64, Ordering};
 use std::test::Fail;
 
-// Gives one line at each take. From the second on, it fails where the other end has not got a reply to each line
-// before.
+// Gives one line at each take. From the second on, it fails if the other end has not got a reply to each line before.
 #[derive(Drop)]
 struct Asker {
     taken: u64,

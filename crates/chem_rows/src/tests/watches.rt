@@ -1,4 +1,4 @@
-//! Standing searches: what is watched, what commits do to its hits, and when they are searched anew.
+//! Watches: their hits after commits, and when they are searched anew.
 use super::{MEM, Made, Script, check_each};
 use std::test::Fail;
 

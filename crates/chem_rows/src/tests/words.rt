@@ -1,15 +1,15 @@
-//! Words: what they ask for, and which of them is wrong.
+//! Words: the plan that they ask for, or the word that is wrong.
 
 use super::{MEM, PLAIN, answers};
 use chem_shell::word_fault;
 use std::test::Fail;
 
-// Three registrations, and what is put where all are allowed.
+// Three registrations, and the replies if all are allowed.
 const THREE: &[u8] = b"register 1 C\nregister 1 C\nregister 2 C\n";
 
 const ALL: &str = "ok 1\nrefused known\nok 2\n";
 
-// Words, and what is put.
+// Words, and the bytes that are put.
 const ASK: &[(&[&str], &str)] = &[
     (MEM, ALL),
     (&["mem", "--page", "3"], ALL),
@@ -29,7 +29,7 @@ const ASK: &[(&[&str], &str)] = &[
     ),
 ];
 
-// Words that ask for nothing, and why.
+// Words that are refused, and why.
 const ASK_FOR_NOTHING: &[(&[&str], &str)] = &[
     (&[], "a command is missing"),
     (&["--page", "3"], "a command is missing"),

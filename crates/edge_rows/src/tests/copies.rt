@@ -1,4 +1,4 @@
-//! Worked copies: the bytes, and what a crash leaves after a stop at each call.
+//! Worked copies: the bytes, and the images of a crash after a stop at each call.
 
 ghost use Rattle.std.specs.Prelude.{◌≡◌, IfOk, OnOk, length};
 
@@ -47,14 +47,15 @@ fn long(alloc: Global) -> Result<Vec<u8>, AllocError>
     vec![in alloc; 7; 30_000]
 }
 
-// Whether an image of a disk is open.
+// True if an image of a disk is open.
 fn is_open(disk: MemDisk, choice: u32) -> Result<bool, DiskFail> {
     let mut image = disk.image(choice);
     let header = peek_header(&mut image)?;
     Ok(header.is_some())
 }
 
-// The place of a copy on a disk before its finish, the header and the place of its journal, and whether it has its bytes.
+// The place of a copy on a disk before its finish, the header and the place of its journal, and true if it has its
+// bytes.
 fn finished(alloc: Global, disk: MemDisk) -> Result<(u64, Header, u64, bool), Fail> {
     let carry = copied(alloc, disk)?;
     let before = carry.place();
@@ -74,7 +75,7 @@ fn a_copy_is_written_as_its_bytes(rt: HostRuntime) -> Result<(), Fail> {
     Ok(())
 }
 
-// The bytes of a copy with three long payloads behind its commit.
+// The bytes of a copy with three long payloads after its commit.
 fn long_copy(alloc: Global, long: &[u8]) -> Result<Vec<u8>, AllocError> {
     let mut bytes = COPY[..32].to_vec(alloc)?;
     for _ in 0..3 {
@@ -97,7 +98,7 @@ fn add_thrice(carry: &mut Carry<MemDisk>, long: &Vec<u8>) -> Result<(), DiskFail
     carry.add(long)
 }
 
-// Whether a copy with three such payloads is finished as these bytes.
+// True if a copy with three such payloads is finished as these bytes.
 fn is_written_as(alloc: Global, long: &Vec<u8>, bytes: &[u8]) -> Result<bool, Fail>
     requires { length long.now.items ≡ 30000 }
 {
@@ -117,7 +118,7 @@ fn a_long_copy_is_written_whole(rt: HostRuntime) -> Result<(), Fail> {
     Ok(())
 }
 
-// What a start with this many calls that pass answers, and whether the disk is open behind a crash.
+// The answer of a start with this many calls that pass, and whether the disk is open after a crash.
 fn stopped_start(alloc: Global, calls: u64) -> Result<(CopyFault, bool), Fail> {
     let mut disk = store(alloc)?;
     disk.stop_after(calls);
@@ -150,7 +151,7 @@ const FINISHES: &[(u64, bool, [bool; 4])] = &[
     (3, true, [true, false, true, false]),
 ];
 
-// Whether a finish with this many calls that pass is in doubt, and whether an image of its disk is open.
+// True if a finish with this many calls that pass is in doubt, and true if an image of its disk is open.
 fn stopped_finish(alloc: Global, calls: u64, choice: u32) -> Result<(bool, bool), Fail> {
     let mut carry = copied(alloc, store(alloc)?)?;
     carry.stop_after(calls);
@@ -175,7 +176,7 @@ fn a_stopped_finish_is_there_or_not(rt: HostRuntime) -> Result<(), Fail> {
     Ok(())
 }
 
-// What a disk answers that is shut behind a doubtful finish, and whether an image of it is open.
+// The answer of a disk that is shut after a doubtful finish, and whether an image of it is open.
 fn shut_in_doubt(alloc: Global, choice: u32) -> Result<(Result<(), DiskFail>, bool), Fail> {
     let mut carry = copied(alloc, store(alloc)?)?;
     carry.fail_once(4);

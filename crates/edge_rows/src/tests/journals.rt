@@ -1,4 +1,4 @@
-//! Worked journals: the bytes, a file cut at each byte, a base in front, and a crash after a stop at each call.
+//! Worked journals: the bytes, a file cut at each byte, a base first, and a crash after a stop at each call.
 
 ghost use Rattle.std.specs.Prelude.{◌≡◌, ◌<◌, true, false, IfOk, OnOk};
 
@@ -29,7 +29,7 @@ const FIRST_HEADER: Header = Header {
     base_count: 0,
 };
 
-// Reads the base records, and gives how many there are.
+// Reads the base records, and returns their number.
 fn skip_base<D: Disk>(journal: &mut Journal<D>) -> Result<u64, LoadFault>
     requires { journal.old.doubt ≡ false }
     ensures read { OnOk result (journal.new.left ≡ 0) }
@@ -43,7 +43,7 @@ fn skip_base<D: Disk>(journal: &mut Journal<D>) -> Result<u64, LoadFault>
     Err(LoadFault::NoMemory)
 }
 
-// What a journal says of itself, how many base records it has, and the place behind them.
+// The header of a journal, the number of its base records, and the place after them.
 fn base_of(alloc: Global, disk: MemDisk) -> Result<(Header, u64, u64), LoadFault> {
     match Journal::load(alloc, disk) {
         Ok(journal) => {
@@ -55,7 +55,7 @@ fn base_of(alloc: Global, disk: MemDisk) -> Result<(Header, u64, u64), LoadFault
     }
 }
 
-// A journal that is read to its end, and how many payloads it has.
+// A journal that is read to its end, and the number of its payloads.
 fn read<D: Disk + Drop>(alloc: Global, disk: D) -> Result<(Journal<D>, u64), LoadFault>
     ensures { IfOk result (λ read. (read.0.ready ≡ true) × (read.0.doubt ≡ false)) }
 {
@@ -144,7 +144,7 @@ fn a_base_stands_in_front_of_the_records(rt: HostRuntime) -> Result<(), Fail> {
     Ok(())
 }
 
-// Calls that pass, the answer, and how many payloads each image has.
+// Calls that pass, the answer, and the number of payloads of each image.
 const APPENDS: &[(u64, Result<(), AppendFault>, [u64; 6])] = &[
     (0, Err(AppendFault::Sure), [1, 1, 1, 1, 1, 1]),
     (1, Err(AppendFault::Sure), [1, 1, 1, 1, 1, 1]),
@@ -165,7 +165,7 @@ fn journal(alloc: Global) -> Result<Journal<MemDisk>, Fail>
     Ok(journal)
 }
 
-// What an append with this many calls that pass answers, and how many payloads an image of its disk has.
+// The answer of an append with this many calls that pass, and the number of payloads of an image of its disk.
 fn stopped_append(
     alloc: Global,
     calls: u64,
@@ -192,8 +192,8 @@ fn a_crash_leaves_the_payload_or_not(rt: HostRuntime) -> Result<(), Fail> {
     Ok(())
 }
 
-// Whether a journal is in doubt behind the settlement of a doubtful append, and how many payloads an image of its disk
-// has.
+// True if a journal is in doubt after the settlement of a doubtful append, and the number of payloads of an image of
+// its disk.
 fn settled(alloc: Global, choice: u32) -> Result<(bool, u64), Fail> {
     let mut journal = journal(alloc)?;
     journal.fail_once(4);

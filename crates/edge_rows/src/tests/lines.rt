@@ -7,8 +7,8 @@ use std::io;
 use std::io::{ErrorKind, Read, Write};
 use std::test::Fail;
 
-/// What calls for the next line answer: each text and `|`, `L|` for a long line, `!` for a fault of the
-/// source, and at last `.` for the end or `#` at the limit.
+/// The answers of calls for the next line: each text and `|`, `L|` for a long line, `!` for a fault of the source. The
+/// last is `.` for the end or `#` at the limit.
 fn answers<S: Source>(alloc: Global, source: &mut S, limit: u64) -> Result<Vec<u8>, AllocError> {
     let mut lines = Lines::new(alloc, limit)?;
     let mut said = Vec::new(alloc);
@@ -48,10 +48,10 @@ const LINES: &[(&[u8], u64, &[u8])] = &[
     (b"ab\n", 0, b"#"),
 ];
 
-// How many bytes are taken at once.
+// The number of bytes that are taken at once.
 const PIECES: &[usize] = &[1, 3, 1000];
 
-// What calls for the next line of a text answer, of which a piece is taken at once.
+// The answers of calls for the next line of a text that is taken by pieces.
 fn answers_by(
     alloc: Global,
     bytes: Vec<u8>,
@@ -65,7 +65,7 @@ fn answers_by(
     answers(alloc, &mut source, limit)
 }
 
-// Whether a text is cut into these lines.
+// True if a text is cut into these lines.
 fn is_cut(
     alloc: Global,
     text: &[u8],
@@ -99,7 +99,7 @@ const LONG: &[(usize, &[u8], bool)] = &[
     (200_000, b"\r\nab", true),
 ];
 
-// Whether a line of this length, and what stands behind it, is told as long or whole.
+// True if a line of this length, with these bytes after it, is answered as long or whole, as `long` says.
 fn is_told(
     alloc: Global,
     length: usize,
@@ -172,7 +172,7 @@ fn writers_of_std(rt: HostRuntime) {
     );
 }
 
-// What is read and written, where so many calls are interrupted first.
+// The bytes read and written, after this number of interrupted calls.
 #[derive(Drop)]
 struct Interrupted<T> {
     inner: T,

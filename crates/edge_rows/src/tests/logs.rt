@@ -83,7 +83,7 @@ fn what_is_no_payload_is_told(rt: HostRuntime) -> Result<(), Fail> {
     Ok(())
 }
 
-// Files, and how many commits they have.
+// Files, and the number of their commits.
 const LOGS: &[(&[u8], Result<usize, LoadFault>)] = &[
     (b"", Err(LoadFault::NotAStore)),
     (b"ZCHEMDB1\0", Ok(0)),
@@ -160,7 +160,7 @@ fn an_entry_is_read_from_its_payload_alone(rt: HostRuntime) -> Result<(), Fail> 
     Ok(())
 }
 
-// Whether a payload is that of an entry, which is written as the same bytes.
+// True if a payload is that of an entry, which is written as the same bytes.
 fn is_entry(alloc: Global, payload: &[u8]) -> Result<bool, AllocError> {
     match decode_base(alloc, payload)? {
         Some(entry) => Ok(encode_base(alloc, &entry)?.as_slice() == payload),
@@ -183,7 +183,7 @@ fn based(alloc: Global, version: u8, count: u8, parts: &[&[u8]]) -> Result<Vec<u
     Ok(file)
 }
 
-// A base version, a number of base records, what stands behind the header, and how many entries and commits are read.
+// A base version, a number of base records, the bytes after the header, and the numbers of entries and commits read.
 const BASES: &[(u8, u8, &[&[u8]], Result<(usize, usize), LoadFault>)] = &[
     (0, 0, &[b"\0"], Ok((0, 0))),
     (5, 2, &[ONE, TWO, b"\0"], Ok((2, 0))),

@@ -1,4 +1,4 @@
-//! A finish that is stopped at each call of its disk, and a crash to each image; and a commit behind a doubtful finish.
+//! A finish that is stopped at each call of its disk, and a crash to each image; and a commit after a doubtful finish.
 
 ghost use Rattle.std.specs.Prelude.{◌≡◌, ◌<◌, ◌^◌, IfOk, None, length};
 ghost use Rattle.disk_pair.specs.Term.{HasRoom, IsBased, LacksBase, progress_of};
@@ -59,7 +59,7 @@ fn copied(alloc: Global) -> Result<Pair<MemDisk>, Fail>
     Ok(pair)
 }
 
-// A base record as long as what gathers in memory.
+// A base record as long as the bytes that gather in memory.
 fn long(alloc: Global) -> Result<Vec<u8>, AllocError>
     ensures { IfOk result (λ bytes. length bytes.items ≡ 65536) }
 {
@@ -104,7 +104,7 @@ const FINISHES: &[(u64, Result<(), PutFault>, [u32; 4])] = &[
     (4, Ok(()), [1, 1, 1, 1]),
 ];
 
-// What a finish with this many calls that pass answers, and the generation behind a crash to these images.
+// The answer of a finish with this many calls that pass, and the generation after a crash to these images.
 fn stopped_finish(
     alloc: Global,
     calls: u64,
@@ -130,7 +130,7 @@ fn a_stopped_finish_is_there_or_not(rt: HostRuntime) -> Result<(), Fail> {
     Ok(())
 }
 
-// Whether a copy is left by a doubtful finish, what a commit behind it answers, and the generation behind a crash to
+// True if a copy is left by a doubtful finish, the answer of a commit after it, and the generation after a crash to
 // these images.
 fn doubtful_finish(alloc: Global, image: u32) -> Result<(bool, Result<(), PutFault>, u32), Fail> {
     let mut pair = copied(alloc)?;
@@ -155,7 +155,7 @@ fn a_commit_ends_a_doubtful_finish(rt: HostRuntime) -> Result<(), Fail> {
     Ok(())
 }
 
-// What a base record answers whose disk fails, whether a copy is left, and the generation behind a crash.
+// The answer of a base record whose disk fails, whether a copy is left, and the generation after a crash.
 fn failed_copy(alloc: Global) -> Result<(Result<(), PutFault>, bool, u32), Fail> {
     let mut pair = begun(alloc)?;
     pair.fail_once(Which::Second, 1);

@@ -9,7 +9,7 @@ use std::alloc::{AllocError, Global};
 use std::test::Fail;
 use std::thread::Threads;
 
-// What a drill wrote; nothing where it did not come to its end.
+// The output of a drill; empty if it did not come to its end.
 fn drilled<R: Threads + Sync>(rt: &R, alloc: Global, script: &str) -> Result<String, Fail> {
     let settings = Settings {
         workers: 1,
@@ -34,7 +34,7 @@ fn drilled<R: Threads + Sync>(rt: &R, alloc: Global, script: &str) -> Result<Str
     }
 }
 
-// Whether these are the replies of the drill.
+// True if these are the replies of the drill.
 fn is_drilled<R: Threads + Sync>(
     rt: &R,
     alloc: Global,
@@ -53,7 +53,7 @@ const STOPS: &[(u32, &str, [u32; 4])] = &[
     (4, "ok 2", [2, 2, 2, 2]),
 ];
 
-// Whether a disk that stops after so many calls gives a commit this answer, and a reopening at the image this version.
+// True if a disk that stops after `calls` calls gives a commit this answer, and a reopening at the image this version.
 fn is_stopped<R: Threads + Sync>(
     rt: &R,
     alloc: Global,
@@ -82,8 +82,8 @@ fn a_stop_leaves_the_commit_or_not(rt: HostRuntime) -> Result<(), Fail> {
     Ok(())
 }
 
-// Whether a disk that stops after so many calls keeps, at the image, the commits that were acknowledged, and one more at
-// most.
+// True if a disk that stops after `calls` calls keeps, at the image, the commits that were acknowledged, and one more
+// at most.
 fn keeps_the_acknowledged<R: Threads + Sync>(
     rt: &R,
     alloc: Global,

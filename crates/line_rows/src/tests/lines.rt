@@ -1,4 +1,4 @@
-//! Lines and what they are read as.
+//! Lines and their commands.
 use LineRefusal::{Id, Syntax};
 use TakenLines::{Molfile, Records};
 use shell_lang::{Command, LineRefusal, MolfileChange, TakenLines, read_command, taken_lines};
@@ -162,7 +162,7 @@ fn lines_are_read_by_their_parts(rt: HostRuntime) {
     }
 }
 
-// Lines, and what each takes after it.
+// Lines, and the lines that each takes after it.
 const TAKEN: &[(&str, Option<TakenLines>)] = &[
     ("", None),
     ("register 1 C", None),
@@ -237,10 +237,10 @@ fn some_lines_take_lines_after_them(rt: HostRuntime) {
     }
 }
 
-/// The word of a command, its numbers, its name and its text, each 0 or empty where it has none.
+/// The word of a command, its numbers, its name and its text, each 0 or empty if it has none.
 type Parts<'a> = (&'a str, (u32, u32, u32), &'a [u8], &'a [u8]);
 
-// The parts of a command that has some.
+// The parts of a command, if it has any.
 fn parts_of(line: &[u8]) -> Option<Parts<'_>> {
     match read_command(line).ok()? {
         Command::Register { id, text } => Some(("register", (id, 0, 0), NO_BYTES, text)),

@@ -78,10 +78,10 @@ fn reply_at(place: usize) -> Option<(Reply, &'static str)> {
     Some(row)
 }
 
-// How many there are.
+// The number of replies.
 const REPLIES: usize = 19;
 
-// Whether these are the lines of the reply.
+// True if these are the lines of the reply.
 fn is_written(alloc: Global, reply: &Reply, lines: &str) -> Result<bool, AllocError> {
     let mut out = Vec::new(alloc);
     reply_text(reply, &mut out)?;
@@ -129,7 +129,7 @@ fn refusals_are_written(rt: HostRuntime) -> Result<(), Fail> {
     Ok(())
 }
 
-// Texts of records, and what stands before each text in the lines of a reply.
+// Texts of records, and the words before each text in the lines of a reply.
 const SHOWN: &[(Format, &str, &str)] = &[
     (Format::Smiles, "CCO", "record 7 version 3 smiles "),
     (Format::Molfile, METHANE, "record 7 version 3 molfile 6\n"),
@@ -156,7 +156,7 @@ const DATA: &[(&str, &str)] = &[
     ("a\n\nb\n", "data 7 3\na\n\nb\n"),
 ];
 
-// Whether these are the lines of the text.
+// True if these are the lines of the text.
 fn is_data_written(alloc: Global, text: &str, lines: &str) -> Result<bool, AllocError> {
     let mut out = Vec::new(alloc);
     data_text(7, text.as_bytes(), &mut out)?;

@@ -72,7 +72,7 @@ fn sketch(alloc: Global, atoms: &[SketchAtom], bonds: &[SketchBond]) -> Result<S
     })
 }
 
-// Fills in the hydrogens of a structure, and looks whether each atom has so many.
+// Fills in the hydrogens of a structure, and tests whether each atom has its number in `want`.
 fn fills(
     rt: &impl Abort,
     alloc: Global,
@@ -170,8 +170,8 @@ fn hydrogens_of_molfiles(rt: HostRuntime) -> Result<(), Fail> {
     Ok(())
 }
 
-// Makes counts of the plain hydrogen atoms of a structure, and looks whether these atoms are left, each an element with
-// its hydrogens, and these bonds.
+// Makes counts of the plain hydrogen atoms of a structure, and tests the rest: these atoms, each an element with its
+// hydrogens, and these bonds.
 fn leaves(
     rt: &impl Abort,
     alloc: Global,

@@ -24,7 +24,7 @@ const HEADER: MolfileFault = MolfileFault::Header;
 
 const CUT: MolfileFault = MolfileFault::Cut;
 
-/// What stands in the acetate's text for other bytes, the first time, and the fault, if that has one.
+/// The old bytes of the acetate's text, at their first place, the new ones, and the fault, if that text has one.
 type Change = (&'static str, &'static str, Option<MolfileFault>);
 
 #[rattlefmt::skip]
@@ -142,7 +142,7 @@ const PROPERTIES: &[Change] = &[
     ("\n  4  3", "", Some(HEADER)),
 ];
 
-// The text with other bytes in place of those that stand there first.
+// The text with the first place of the old bytes replaced by the new ones.
 fn changed(alloc: Global, old: &str, new: &str) -> Result<String, AllocError> {
     match ACETATE.split_once(old) {
         Some((before, after)) => format!(in alloc; "{before}{new}{after}"),
@@ -211,7 +211,7 @@ fn charge_lines_take_the_place_of_charge_fields(rt: HostRuntime) -> Result<(), F
     Ok(())
 }
 
-/// What stands for other bytes, and what the third atom then is.
+/// The old bytes, the new ones, and the third atom then.
 type Third = (&'static str, &'static str, SketchAtom);
 
 const OXYGEN: SketchAtom = SketchAtom {
@@ -255,7 +255,7 @@ fn fields_and_lines_make_an_atom(rt: HostRuntime) -> Result<(), Fail> {
     Ok(())
 }
 
-// The fault of so many empty lines.
+// The fault of `count` empty lines.
 fn fault_of_blank(alloc: Global, count: usize) -> Result<Option<MolfileFault>, AllocError> {
     let text = "\n".repeat(alloc, count)?;
     Ok(fault_of(alloc, &text))

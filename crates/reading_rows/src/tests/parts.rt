@@ -14,7 +14,7 @@ fn methane(rt: HostRuntime) -> Result<(), Fail> {
     Ok(())
 }
 
-// Whether each is set in a print of the bits 63 and 1023.
+// For each bit, true if it is set in a print of the bits 63 and 1023.
 const BITS: &[(u16, bool)] = &[
     (0, false),
     (62, false),
@@ -40,8 +40,8 @@ fn bits_that_are_set_are_had(rt: HostRuntime) {
     }
 }
 
-// Whether the second print holds the first and itself, and the third the second; whether the first holds the second, or
-// the second the third; and how many bits each has.
+// True if the second print holds the first and itself, and the third the second. Then true if the first holds the
+// second, or the second the third. Then the number of bits of each.
 fn compared(first: &Print, second: &Print, third: &Print) -> (bool, bool, (u32, u32, u32)) {
     (
         second.holds(first) && third.holds(second) && second.holds(second),

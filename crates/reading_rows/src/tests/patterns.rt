@@ -1,4 +1,4 @@
-//! Texts and what they are read as.
+//! Texts and their patterns.
 
 use smarts_parse::{Graph, Pattern, SmartsFault, parse};
 use std::alloc::{AllocError, Global};
@@ -89,24 +89,24 @@ fn groups_are_numbered(rt: HostRuntime) -> Result<(), Fail> {
     Ok(())
 }
 
-// Whether these are the groups of the pattern's atoms, and all atoms of its recursive parts are in no group.
+// True if these are the groups of the pattern's atoms, and all atoms of its recursive parts are in no group.
 fn has_groups(pattern: &Pattern, groups: &[u16]) -> bool {
     pattern.top.groups.as_slice() == groups && pattern.recs.iter().all(is_one_group)
 }
 
-// Whether all atoms of a recursive part are in no group.
+// True if all atoms of a recursive part are in no group.
 fn is_one_group(part: &Graph) -> bool {
     part.groups.len() == part.atoms.len() && part.groups.iter().all(|group| *group == 0)
 }
 
-// As many groups as a text may have.
+// The greatest number of groups of a text.
 fn many_groups(alloc: Global) -> Result<Pattern, Fail> {
     let text = long_text(alloc, ".(C)", 255, "", "")?;
     let text = format!(in alloc; "(C){text}")?;
     Ok(parse(alloc, text.as_bytes())?)
 }
 
-// A front so many times, a middle, a back as many times, and the fault.
+// A front, the number of its copies, a middle, a back with that number of copies, and the fault.
 const LIMITS: &[(&str, usize, &str, &str, Option<SmartsFault>)] = &[
     ("[$(", 8, "C", ")]", None),
     ("[$(", 9, "C", ")]", Some(SmartsFault::Limit)),

@@ -1,4 +1,4 @@
-//! Worked examples of one atom. Longer paths have no example here: `IsPrint` and `IsNeed` say what they set.
+//! Worked examples of one atom. Longer paths have no example here: `IsPrint` and `IsNeed` define their bits.
 use crate::tests::{CARBON, alone};
 use chem_core::{Atom, Print};
 use path_print::{need, print};

@@ -19,7 +19,7 @@ const CARBON: SketchAtom = SketchAtom {
     written: 0,
 };
 
-/// A graph, and what is wanted of it: a letter for each bond, `r` where it is a ring bond, and a digit for each atom.
+/// A graph, and its rings: a letter for each bond, `r` for a ring bond, and a digit for each atom.
 struct Example {
     name: &'static str,
     bonds: &'static [(u16, u16)],
@@ -199,7 +199,7 @@ fn at(text: &str, place: usize) -> u8 {
     text.as_bytes().get(place).copied().unwrap_or(b' ')
 }
 
-// Whether these are the ring bonds and the smallest rings of the example.
+// True if these are the ring bonds and the smallest rings of the example.
 fn are_rings(found: &Rings, example: &Example) -> bool {
     let mut right = found.bond_in_ring.len() == example.in_ring.len()
         && found.atom_small.len() == example.small.len();
@@ -213,7 +213,7 @@ fn are_rings(found: &Rings, example: &Example) -> bool {
     right
 }
 
-// Whether the rings of the example's graph are those that are wanted, and it has no more atoms than a sketch may have.
+// True if the rings of the example's graph are as given, and it has no more atoms than a sketch may have.
 fn holds(alloc: Global, example: &Example) -> Result<bool, AllocError> {
     let atoms = example.small.len();
     if atoms > MOST_ATOMS {

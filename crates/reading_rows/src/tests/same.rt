@@ -10,7 +10,7 @@ const SILICON: Atom = Atom {
     ..CARBON
 };
 
-// Whether the first is the first, the first the second, and the second the second; and the sum of the first's key.
+// True if the first is the first, the first the second, and the second the second; and the sum of the first's key.
 fn compared(first: &Mol, second: &Mol, scratch: &mut SameScratch) -> (bool, bool, bool, u64) {
     (
         same(first, first, scratch),

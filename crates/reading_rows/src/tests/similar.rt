@@ -1,4 +1,4 @@
-//! Hits by hand: a fraction that does not pass, a tie, a cut, and what may be left out.
+//! Hits by hand: a fraction that does not pass, a tie, a cut, and offers that may be left out.
 use chem_core::Print;
 use similar_find::{Best, most_alike, score};
 use std::test::Fail;

@@ -10,12 +10,12 @@ use std::test::Fail;
 /// A SMILES and its molecule: a character for each atom or bond.
 struct Example {
     text: &'static str,
-    /// Hydrogens, valence and smallest ring as digits; `a` where an atom is aromatic.
+    /// Hydrogens, valence and smallest ring as digits; `a` for an aromatic atom.
     hydrogens: &'static str,
     valence: &'static str,
     small: &'static str,
     aromatic: &'static str,
-    /// `-`, `=` or `:`, and `r` where a bond is a ring bond.
+    /// `-`, `=` or `:`, and `r` for a ring bond.
     kinds: &'static str,
     rings: &'static str,
 }
@@ -94,7 +94,7 @@ fn letter(kind: BondKind) -> u8 {
     }
 }
 
-// Whether the molecule's atoms are those of the example.
+// True if the molecule's atoms are those of the example.
 fn atoms_are(mol: &Mol, example: &Example) -> bool {
     let mut right = mol.atoms().len() == example.hydrogens.len();
     for (place, atom) in mol.atoms().iter().enumerate() {
@@ -108,7 +108,7 @@ fn atoms_are(mol: &Mol, example: &Example) -> bool {
     right
 }
 
-// Whether the molecule's bonds are those of the example.
+// True if the molecule's bonds are those of the example.
 fn bonds_are(mol: &Mol, example: &Example) -> bool {
     let mut right = mol.bonds().len() == example.kinds.len();
     for (place, bond) in mol.bonds().iter().enumerate() {
@@ -135,7 +135,7 @@ fn examples(rt: HostRuntime) -> Result<(), Fail> {
     Ok(())
 }
 
-// Whether these are the components of the molecule's atoms.
+// True if these are the components of the molecule's atoms.
 fn components_are(mol: &Mol, components: &[u16]) -> bool {
     let mut right = mol.atoms().len() == components.len();
     for (place, _) in mol.atoms().iter().enumerate() {
@@ -168,7 +168,7 @@ fn components_are_named_by_their_least_atom(rt: HostRuntime) -> Result<(), Fail>
     Ok(())
 }
 
-// Whether each atom is its own component.
+// True if each atom is its own component.
 fn are_apart(mol: &Mol) -> bool {
     let mut apart = true;
     for (place, _) in mol.atoms().iter().enumerate() {
@@ -186,7 +186,7 @@ fn a_structure_has_three_hundred_components(rt: HostRuntime) -> Result<(), Fail>
     Ok(())
 }
 
-// Whether two texts have the same atoms and bonds.
+// True if two texts have the same atoms and bonds.
 fn are_alike(
     alloc: Global,
     first: (Format, &str),

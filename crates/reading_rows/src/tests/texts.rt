@@ -65,7 +65,7 @@ fn texts_and_their_answers(rt: HostRuntime) -> Result<(), Fail> {
     Ok(())
 }
 
-/// A text of parts, of which the middle and the end are repeated, and the name of its answer.
+/// A text of parts, with its middle and its end repeated, and the name of its answer.
 struct Long {
     front: &'static str,
     middle: &'static str,
@@ -168,7 +168,7 @@ const DRAWN: &[Drawn] = &[
     Drawn { text: "C(C.N)O", first: CARBON, bonds: &[bond!(0, Unwritten, 1), bond!(0, Unwritten, 3)] },
 ];
 
-// Whether the sketch has the first atom and the bonds of the example.
+// True if the sketch has the first atom and the bonds of the example.
 fn is_drawn(sketch: &Sketch, example: &Drawn) -> bool {
     sketch.atoms.first() == Some(&example.first) && sketch.bonds.as_slice() == example.bonds
 }

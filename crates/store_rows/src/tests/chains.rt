@@ -7,7 +7,7 @@ use std::marker::Brand;
 use std::sync::ledger::{Blank, Ledger};
 use std::test::Fail;
 
-// What an identifier has at a version.
+// The entry of an identifier at a version.
 fn look(chains: &Chains<char>, id: u32, version: u32) -> Option<(u32, char)> {
     look_by::<Brand>(chains, id, version, Blank::new(1))
 }
@@ -27,7 +27,7 @@ fn look_by<L: Ledger>(
     Some((version, *value))
 }
 
-// What a finder finds.
+// The entry that a finder finds.
 fn find(finder: &mut Finder<'_, char>, id: u32, version: u32) -> Option<(u32, char)> {
     find_by::<Brand>(finder, id, version, Blank::new(1))
 }
@@ -59,7 +59,7 @@ fn three_entries(alloc: Global) -> Result<Chains<char>, AllocError> {
     Ok(chains)
 }
 
-// What an identifier has at a version.
+// The entry of an identifier at a version.
 const READ: &[(u32, u32, Option<(u32, char)>)] = &[
     (7, 0, None),
     (7, 1, Some((1, 'a'))),
@@ -112,7 +112,7 @@ fn an_entry_is_dead_where_nobody_reads_it(rt: HostRuntime) -> Result<(), Fail> {
     Ok(())
 }
 
-// What the identifier then has at a version.
+// The entry that the identifier then has at a version.
 const LEFT: &[(u32, Option<(u32, char)>)] = &[
     (1, None),
     (5, Some((2, 'b'))),

@@ -1,4 +1,4 @@
-//! Worked stores in memory: a fetch reads no entry that lacks what it wants, and a pin reads its version.
+//! Worked stores in memory: a fetch reads no entry that lacks the wanted bits, and a pin reads its version.
 ghost use Rattle.std.specs.Prelude.{◌≡◌, ◌+◌, ◌<◌, ◌≤◌, ◌⊎◌, Bool, IfOk, IsTrue, List, Some, ℕ};
 ghost use Rattle.std.specs.Arc.{arc_value};
 ghost use Rattle.store_machine.specs.History.{IsId};
@@ -48,14 +48,14 @@ fn pin(store: &mut Store) -> Result<Pin, Fail>
     }
 }
 
-// An empty store, in which nothing is to be found.
+// An empty store, in which nothing is found.
 fn empty(alloc: Global, want: &Print, only: u32) -> Store
     ensures { HasOnly result want.now only }
 {
     Store::fresh(alloc, 400)
 }
 
-// Whether a record is of this identifier, or lacks what is wanted.
+// True only if a record is of this identifier, or lacks a wanted bit.
 fn may_come(entry: &Arc<Record>, want: &Print, only: u32) -> bool
     ensures sound { IsRecord (arc_value entry.now) }
     ensures lacks { IsTrue result
@@ -100,7 +100,7 @@ fn store_with(alloc: Global, one: Arc<Record>, want: &Print, only: u32) -> Resul
     Ok(store)
 }
 
-// The page of a pin from 1 on, and whether no other follows. At most one entry is read.
+// The page of a pin from 1 on. Returns true if no other follows. At most one entry is read.
 fn fetch_one<L: Ledger>(
     store: &mut Store,
     pin: &Pin,
@@ -117,7 +117,7 @@ fn fetch_one<L: Ledger>(
     Ok(store.fetch(pin, want, 1, 256, page, steps)?)
 }
 
-// Whether what has all that is wanted is one record, of this identifier.
+// True if exactly one record has all wanted bits, and it is of this identifier.
 fn is_found_alone(alloc: Global, store: &mut Store, want: &Print, only: u32) -> Result<bool, Fail>
     requires { HasOnly store.old want.now only }
 {
@@ -159,7 +159,7 @@ fn register_two(alloc: Global, store: &mut Store) -> Result<(), Fail> {
     commit(store, Change::Register(record(alloc, 2, b"N")?))
 }
 
-// Revises 1 twice, withdraws 2 and prunes. Answers how many entries were dropped.
+// Revises 1 twice, withdraws 2 and prunes. Returns the number of entries dropped.
 fn change_and_prune(alloc: Global, store: &mut Store) -> Result<u32, Fail>
     ensures { IfOk result (λ _. KeepsPins store.old store.new) }
 {
@@ -169,7 +169,7 @@ fn change_and_prune(alloc: Global, store: &mut Store) -> Result<u32, Fail>
     Ok(store.prune()?)
 }
 
-// Whether the pin has methane and ammonia, and no others.
+// True if the pin has methane and ammonia, and no others.
 fn has_both(alloc: Global, store: &mut Store, pin: &Pin) -> Result<bool, Fail>
     requires { HoldsPin store.old pin.now.slot pin.now.version }
     ensures { IfOk result (λ _. KeepsPins store.old store.new) }
@@ -202,10 +202,11 @@ fn are_both(page: &Page) -> bool {
     }
 }
 
-// How many entries a prune drops beside a pin, whether the pin reads its version, and how many are dropped without it.
+// The number of entries that a prune drops beside a pin, whether the pin reads its version, and the number dropped
+// without it.
 fn beside_a_pin(alloc: Global, store: &mut Store) -> Result<(u32, bool, u32), Fail> {
     let pin = pin(store)?;
-    // the first revision is read by nobody
+    // no version in use reads the first revision
     let dropped = change_and_prune(alloc, store)?;
     let has_both = has_both(alloc, store, &pin)?;
     store.unpin(pin)?;
@@ -236,7 +237,7 @@ fn live_since(store: &mut Store, id: u32) -> Result<Option<u32>, Fail> {
     }
 }
 
-// What a store with such a base answers to two commits, and the version of 1 before and behind them, and of 7.
+// The answers of a store with such a base to two commits, and the version of 1 before and after them, and of 7.
 fn commit_two(
     alloc: Global,
     store: &mut Store,
@@ -268,8 +269,8 @@ fn a_store_goes_on_from_its_base(rt: HostRuntime) -> Result<(), Fail> {
     Ok(())
 }
 
-// What a copy of a version finds from an identifier on: the identifier, the version that made its state, and whether it
-// is live.
+// The state that a copy of a version finds from an identifier on: the identifier, the version that made it, and whether
+// it is live.
 fn found(store: &Store, from: u32, version: u32) -> Option<(u32, u32, bool)> {
     let state = store.next_state(from, version)?;
     Some((state.id, state.made_at, state.entry.is_some()))
@@ -284,7 +285,7 @@ fn change_beside_a_copy(alloc: Global, store: &mut Store) -> Result<u32, Fail> {
     Ok(begin)
 }
 
-// What copies of versions find from an identifier on.
+// The states that copies of versions find from an identifier on.
 const FOUND: &[(u32, u32, Option<(u32, u32, bool)>)] = &[
     (0, 3, Some((1, 1, true))),
     (2, 3, Some((2, 3, false))),
@@ -294,7 +295,7 @@ const FOUND: &[(u32, u32, Option<(u32, u32, bool)>)] = &[
     (6, 5, None),
 ];
 
-// Where a copy of a version finds something else.
+// The first row for which a copy of a version finds something else.
 fn other_than_found(store: &Store) -> Option<(u32, u32)> {
     for &(from, version, state) in FOUND {
         if found(store, from, version) != state {
@@ -304,12 +305,12 @@ fn other_than_found(store: &Store) -> Option<(u32, u32)> {
     None
 }
 
-// How many entries a prune drops beside a copy, where the copy then finds something else, and how many are dropped
-// without it.
+// The number of entries that a prune drops beside a copy, the row for which the copy then finds something else, and the
+// number dropped without it.
 fn beside_a_copy(alloc: Global, store: &mut Store) -> Result<(u32, Option<(u32, u32)>, u32), Fail> {
     register_two(alloc, store)?;
     let begin = change_beside_a_copy(alloc, store)?;
-    // the ammonia is read by nobody
+    // no version in use reads the ammonia
     let dropped = store.prune_but(Some(begin));
     Ok((dropped, other_than_found(store), store.prune()?))
 }

@@ -7,7 +7,7 @@ use std::alloc::Global;
 use std::test::Fail;
 use store_core::{Record, Service, Store};
 
-// Whether these are what is the same as a text, of so many that were tried, by pages of a size.
+// True if these are the records with the structure of a text, of `tried` that were tried, by pages of `size`.
 fn are_same(
     alloc: Global,
     store: &mut Store,
@@ -30,7 +30,7 @@ fn are_same(
     }
 }
 
-// A text, the records of a page, what is the same, and how many were tried.
+// A text, the records of a page, the records with its structure, and the number that were tried.
 const SAME: &[(&[u8], u32, &[u32], u32)] = &[
     (b"C(C)O", 256, &[1, 2], 2),
     (b"C(C)O", 1, &[1, 2], 2),
@@ -52,7 +52,7 @@ fn ethanol_written_in_two_ways(rt: HostRuntime) -> Result<(), Fail> {
     Ok(())
 }
 
-// Whether these are the most similar to methanol, of so many that were scored, by pages of two.
+// True if these are the most similar to methanol, with all records scored, by pages of two.
 fn are_similar(
     alloc: Global,
     store: &mut Store,

@@ -1,4 +1,4 @@
-//! Texts of records with their items, and texts with the records that are made of them.
+//! Texts of records with their items, and texts with their records.
 use mol_finish::{Format, TextFault};
 use molfile_read::MolfileFault;
 use sd_read::{is_record_end, item, read_records};
@@ -7,7 +7,7 @@ use std::sync::Arc;
 use std::test::Fail;
 use store_core::Record;
 
-/// What stands behind `M  END`, a name, and the data of the item, if there is one.
+/// The text after `M  END`, a name, and the data of the item, if there is one.
 type Case = (&'static str, &'static str, Option<&'static str>);
 
 #[rattlefmt::skip]
@@ -91,7 +91,7 @@ const LIMIT: TextFault = TextFault::Molfile(MolfileFault::Limit);
 
 const STRAY: TextFault = TextFault::Molfile(MolfileFault::Columns(6));
 
-/// The two parts of a text, and the atoms of its structure or why it has none.
+/// The two parts of a text, and the atoms of its structure or why it has no structure.
 type Made = (&'static str, &'static str, Result<usize, TextFault>);
 
 #[rattlefmt::skip]
@@ -110,7 +110,7 @@ const TEXTS: &[Made] = &[
     ("\n\n\n", "  1  0  0  0  0  0  0  0  0  0999 V3000\n", Err(HEADER)),
 ];
 
-/// How long a text is made by blank lines at its end, and what comes of it.
+/// The length to which blank lines at its end extend a text, and the result.
 const LONG: &[(usize, Result<usize, TextFault>)] = &[
     (262_144, Ok(1)),
     (262_145, Err(LIMIT)),
@@ -175,7 +175,7 @@ fn records_under_identifiers_one_after_another(rt: HostRuntime) -> Result<(), Fa
     Ok(())
 }
 
-// A molfile of so many bytes, with blank lines at its end.
+// A molfile of `length` bytes, with blank lines at its end.
 fn long_text(alloc: Global, length: usize) -> Result<Vec<u8>, AllocError> {
     let mut text = joined(alloc, OPEN, b"M  END\n")?;
     let blank = vec![in alloc; b'\n'; length.saturating_sub(text.len())]?;
@@ -212,12 +212,12 @@ fn joined(alloc: Global, front: &str, behind: &[u8]) -> Result<Vec<u8>, AllocErr
     Ok(text)
 }
 
-// Whether a text is made of two parts.
+// True if a text is made of two parts.
 fn is_joined(text: &[u8], front: &str, behind: &str) -> bool {
     text.starts_with(front.as_bytes()) && text.get(front.len()..) == Some(behind.as_bytes())
 }
 
-// The atoms of a record, or why there is none.
+// The atoms of a record, or why there is no record.
 fn atoms_of(answer: &Result<Arc<Record>, TextFault>) -> Result<usize, TextFault> {
     match answer {
         Ok(record) => Ok(record.mol().atoms().len()),

@@ -14,7 +14,7 @@ use std::thread;
 use std::thread::Threads;
 use store_core::{Change, Record, Service, Store};
 
-// Whether the next page has these hits, tried as many, and is the last.
+// True if the next page has these hits, `tried` records were tried, and `last` says whether it is the last.
 fn is_next<R: Threads + Sync, M: Meter>(
     rt: &R,
     store: &mut Store,
@@ -33,7 +33,7 @@ fn is_next<R: Threads + Sync, M: Meter>(
     }
 }
 
-// Pentane has each path of hexane of up to five atoms: it is tried, and not hit.
+// Pentane has each path of hexane of up to five atoms: it is tried, but no hit.
 #[test]
 fn three_records_come_by_pages_of_two(rt: HostRuntime) -> Result<(), Fail> {
     let alloc = rt.alloc();
@@ -50,7 +50,8 @@ fn three_records_come_by_pages_of_two(rt: HostRuntime) -> Result<(), Fail> {
     Ok(())
 }
 
-// Appends the hits of the next pages. Answers from where the search goes on, and how many records were tried.
+// Appends the hits of the next pages. Returns the identifier from which the search goes on, and the number of records
+// tried.
 fn add_next<R: Threads + Sync, M: Meter>(
     rt: &R,
     store: &mut Store,
@@ -78,7 +79,7 @@ fn alkanes(alloc: Global) -> Result<Store, Fail> {
     store_of(alloc, &texts)
 }
 
-// Whether the steps of a search for hexane tell what they should, and have each third record as a hit.
+// True if the steps of a search for hexane are these, and the hits are each third record.
 fn has_thirds<R: Threads + Sync>(
     rt: &R,
     alloc: Global,
@@ -170,7 +171,7 @@ fn two_pieces_are_matched_at_once(rt: HostRuntime) -> Result<(), Fail> {
 // Holds the first piece of each group until another piece of the group has begun, up to a limit.
 #[derive(Drop)]
 struct Groups {
-    // how many pieces a group has besides its first
+    // the number of pieces of a group besides its first
     others: u32,
     firsts_begun: AtomicU32,
     others_begun: AtomicU32,
@@ -194,8 +195,8 @@ impl Meter for Groups {
     }
 }
 
-// How many records a search for methane tried by this many workers in pages of 24, in how many groups, and how many of
-// these were matched in one thread.
+// For a search for methane by `workers` workers in pages of 24: the number of records tried, of groups, and of groups
+// that were matched in one thread.
 fn groups_of<R: Threads + Sync>(
     rt: &R,
     alloc: Global,

@@ -19,7 +19,7 @@ enum Call {
     Compact,
 }
 
-// What a call answers.
+// The answer to a call.
 #[derive(Clone, Copy, Debug, PartialEq, Eq)]
 enum Told {
     Commit(Result<u32, CommitFault>),
@@ -28,17 +28,17 @@ enum Told {
     Nothing,
 }
 
-// What is told of a step of a copy, while so many items are left.
+// The answer to a step of a copy, while `left` items are left.
 fn more(left: u32) -> Told {
     Told::Compact(Ok(Compact::More { left }))
 }
 
-// What is told of the last step of a copy.
+// The answer to the last step of a copy.
 fn done(generation: u32) -> Told {
     Told::Compact(Ok(Compact::Done { generation }))
 }
 
-// What is told of a call whose disk fails.
+// The answer to a call whose disk fails.
 fn failed(doubt: bool) -> Told {
     Told::Compact(Err(CompactFault::DiskFault { doubt }))
 }
@@ -90,7 +90,7 @@ fn disks_of(alloc: Global, first: &[u8], second: &[u8]) -> Result<Disks<MemDisk>
     Ok(Disks { a, b })
 }
 
-// How many commits a disk has beside an empty one.
+// The number of commits of a disk beside an empty one.
 fn commits(alloc: Global, a: MemDisk) -> Result<u32, LoadFault> {
     let b = MemDisk::new(alloc);
     version(alloc, Disks { a, b })
@@ -154,7 +154,7 @@ fn a_commit_is_on_the_disk(rt: HostRuntime) -> Result<(), Fail> {
     Ok(())
 }
 
-// Files, and how many commits are loaded.
+// Files, and the number of commits that are loaded.
 const FILES: &[(&[u8], Result<u32, LoadFault>)] = &[
     (b"", Err(LoadFault::NotAStore)),
     (b"ZCHEMDB2\0\0\0\0\0\0\0\0\0\0\0\0\0", Ok(0)),
@@ -203,7 +203,7 @@ fn a_file_is_loaded_or_its_damage_told(rt: HostRuntime) -> Result<(), Fail> {
     Ok(())
 }
 
-// A disk without commits, and one whose base has a structure, a withdrawn identifier, and a commit behind it.
+// A disk without commits, and one whose base has a structure and a withdrawn identifier, with a commit after it.
 const EMPTY: [u8; 9] = *b"ZCHEMDB1\0";
 
 const COMPACTED: [u8; 59] = *b"ZCHEMDB2\x01\0\0\0\x03\0\0\0\x02\0\0\0\
@@ -275,8 +275,8 @@ fn a_commit_is_on_the_disk_that_is_read(rt: HostRuntime) -> Result<(), Fail> {
     Ok(())
 }
 
-// What is left of a commit behind another one, where the disk stops after so many calls and this much of what was
-// written is kept: its answer, and how many commits there are.
+// The remains of a commit after another one, if the disk stops after `calls` calls and the image of number `choice` is
+// left: its answer, and the number of commits.
 fn stopped(
     alloc: Global,
     calls: u64,
@@ -294,7 +294,7 @@ const SURE: Result<u32, CommitFault> = Err(CommitFault::DiskFault { doubt: false
 
 const DOUBT: Result<u32, CommitFault> = Err(CommitFault::DiskFault { doubt: true });
 
-// Calls that pass, the answer, and how many commits each image has.
+// Calls that pass, the answer, and the number of commits of each image.
 const STOPS: &[(u64, Result<u32, CommitFault>, [u32; 6])] = &[
     (0, SURE, [1, 1, 1, 1, 1, 1]),
     (1, SURE, [1, 1, 1, 1, 1, 1]),
@@ -341,7 +341,8 @@ fn a_failed_call_leaves_a_store_that_commits(rt: HostRuntime) -> Result<(), Fail
     Ok(())
 }
 
-// What disk `b` has after a copy of a store with one structure: format 2, generation 1, version 1, one base record.
+// The content of disk `b` after a copy of a store with one structure: format 2, generation 1, version 1, one base
+// record.
 const ONE: [u8; 38] = *b"ZCHEMDB2\x01\0\0\0\x01\0\0\0\x01\0\0\0\
     \x0d\0\0\0\x04\x01\0\0\0\x01\0\0\0\x01CCO\0";
 

@@ -6,7 +6,7 @@ use std::test::Fail;
 use store_core::{Change, Record};
 use watch_list::Watches;
 
-// One's own commit of a version: an identifier from 1 to 9 gets a text, or none any more.
+// One's own commit of a version: an identifier from 1 to 9 gets a text, or is withdrawn if the text is empty.
 fn commit(
     alloc: Global,
     watches: &mut Watches,
@@ -47,12 +47,12 @@ const COMMITS: &[(u32, u32, &[u8], &[u32], u32, &[u32])] = &[
     (6, 4, b"", &[], 6, &[3]),
 ];
 
-// Whether the watches are at these versions and have these hits.
+// True if the watches are at these versions and have these hits.
 fn have(watches: &Watches, oxygens: (u32, &[u32]), nitrogens: (u32, &[u32])) -> bool {
     watches.list(b"o") == Some(oxygens) && watches.list(b"n") == Some(nitrogens)
 }
 
-// Follows the commits. Answers the version after which a list is another one.
+// Follows the commits. Returns the first version after which a list differs from its row.
 fn other_than_told(alloc: Global, watches: &mut Watches) -> Result<Option<u32>, Fail> {
     for &(version, id, text, oxygens, nitrogen_version, nitrogens) in COMMITS {
         commit(alloc, watches, version, id, text)?;
@@ -79,7 +79,7 @@ fn one_watch(alloc: Global) -> Result<Watches, Fail> {
     Ok(watches)
 }
 
-// Fills a watch of oxygen. Answers how often it was filled.
+// Fills a watch of oxygen. Returns the number of times it was filled.
 fn fill(alloc: Global, watches: &mut Watches) -> Option<u32> {
     if watches.pattern(b"o").is_some() {
         watches.fill(b"o", 3, Vec::new(alloc));
@@ -87,7 +87,7 @@ fn fill(alloc: Global, watches: &mut Watches) -> Option<u32> {
     watches.fills(b"o")
 }
 
-// Takes a watch of nitrogen and one of oxygen out. Answers whether there was each, and how many are left.
+// Removes a watch of nitrogen and one of oxygen. Returns true for each that was there, and the number of watches left.
 fn take_out(watches: &mut Watches) -> ([bool; 2], usize) {
     let are_taken = [watches.remove(b"n"), watches.remove(b"o")];
     (are_taken, watches.len())

@@ -25,7 +25,7 @@ fn pins(world: &mut World) -> Option<u32> {
     }
 }
 
-// The version that made an identifier what it is.
+// The version that made the status of an identifier.
 fn version(world: &mut World, id: u32) -> Option<u32> {
     match world.look(id) {
         Ok(Look::Live { version, .. } | Look::Withdrawn { version }) => Some(version),
@@ -33,8 +33,8 @@ fn version(world: &mut World, id: u32) -> Option<u32> {
     }
 }
 
-// What is left of a commit behind another one, where the disks stop after so many calls and are opened at one of their
-// images: its answer, and how many commits there are.
+// The remains of a commit after another one, if the disks stop after `calls` calls and are opened at one of their
+// images: its answer, and the number of commits.
 fn stopped(alloc: Global, calls: u64, image: u32) -> Result<(Result<u32, CommitFault>, u32), Fail> {
     let mut world = World::new(alloc, 10)?;
     register(alloc, &mut world, 1, b"CCO")?;
@@ -48,7 +48,7 @@ const SURE: Result<u32, CommitFault> = Err(CommitFault::DiskFault { doubt: false
 
 const DOUBT: Result<u32, CommitFault> = Err(CommitFault::DiskFault { doubt: true });
 
-// Calls that pass, the answer, and how many commits each image has.
+// Calls that pass, the answer, and the number of commits of each image.
 const STOPS: &[(u64, Result<u32, CommitFault>, [u32; 4])] = &[
     (0, SURE, [1, 1, 1, 1]),
     (1, SURE, [1, 1, 1, 1]),
