@@ -10,8 +10,8 @@ use Rattle.io_edge.specs.declared.sinks.Sink as put
 use Rattle.io_edge.specs.declared.sources.Source as taken
 use Rattle.session_acts.specs.Cursors.{Calls}
 use Rattle.session_acts.specs.Truths.{IsInRun, ServicesAreTrue}
-use Rattle.session_acts.specs.declared.end.EndStatus.{EndStatus}
-use Rattle.session_acts.specs.declared.end.EndStatus.TheVariants.{Done, SourceFault, SinkFault, NoMemory, InputTooLong, Worn}
+use Rattle.dialogue.specs.declared.end.EndStatus.{EndStatus}
+use Rattle.dialogue.specs.declared.end.EndStatus.TheVariants.{Done, SourceFault, SinkFault, NoMemory, InputTooLong, Worn}
 use Rattle.journal_core.specs.Looks.{Narrows}
 use Rattle.store_disk.specs.Loads.{OpensAfter}
 use Rattle.store_disk.specs.OnDisk.{StandsFor, StoreTerm}

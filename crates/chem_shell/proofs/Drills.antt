@@ -12,8 +12,8 @@ use Rattle.serve_ends.specs.Status.{IsStatusOf}
 use Rattle.serve_ends.specs.declared.end.End.{End}
 use Rattle.session_acts.specs.Cursors.{Calls}
 use Rattle.session_acts.specs.Served.{EndsAs, Writes}
-use Rattle.session_acts.specs.declared.end.EndStatus.{EndStatus}
-use Rattle.session_acts.specs.declared.end.EndStatus.TheVariants.{Done, SourceFault, SinkFault, NoMemory, InputTooLong, Worn}
+use Rattle.dialogue.specs.declared.end.EndStatus.{EndStatus}
+use Rattle.dialogue.specs.declared.end.EndStatus.TheVariants.{Done, SourceFault, SinkFault, NoMemory, InputTooLong, Worn}
 use Rattle.store_core.specs.Stored.{empty}
 use Rattle.store_machine.specs.Runs.{IsRun}
 use Rattle.store_machine.specs.declared.machine.State.{State}

@@ -3,8 +3,8 @@ use Rattle.std.proofs.Common.{◌≡◌, ◌≢◌, ℕ, refl, subst, arith}
 use Rattle.io_edge.specs.declared.sinks.Sink as put
 use Rattle.io_edge.specs.declared.sources.Source as taken
 use Rattle.session_acts.specs.Served.{EndsAs}
-use Rattle.session_acts.specs.declared.end.EndStatus.{EndStatus}
-use Rattle.session_acts.specs.declared.end.EndStatus.TheVariants.{Done, SourceFault, SinkFault, NoMemory, InputTooLong, Worn}
+use Rattle.dialogue.specs.declared.end.EndStatus.{EndStatus}
+use Rattle.dialogue.specs.declared.end.EndStatus.TheVariants.{Done, SourceFault, SinkFault, NoMemory, InputTooLong, Worn}
 use Rattle.serve_ends.specs.Status.{IsStatusOf}
 use Rattle.serve_ends.specs.declared.end.End.{End}
 use Rattle.serve_ends.specs.declared.status.TheConstants.{SOURCE_FAULT, SINK_FAULT, INPUT_TOO_LONG, WORN}

@@ -5,7 +5,7 @@ use Rattle.chem_gen.specs.Script.{script_of}
 use Rattle.chem_gen.specs.Summary.{summary_of}
 use Rattle.session_acts.specs.Cursors.{Calls}
 use Rattle.session_acts.specs.Served.{Writes}
-use Rattle.session_acts.specs.declared.end.EndStatus.TheVariants.{Done}
+use Rattle.dialogue.specs.declared.end.EndStatus.TheVariants.{Done}
 use Rattle.chem_shell.specs.Runs.{AreOfRun, IsTranscript}
 use Rattle.chem_shell.specs.Serving.{IsScriptServed}
 use Rattle.chem_shell.specs.Summed.{IsSummary, IsSummaryPrefix, WritesNothing}

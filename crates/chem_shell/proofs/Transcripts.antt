@@ -6,11 +6,11 @@ use Rattle.io_edge.specs.declared.sources.Source as taken
 use Rattle.session_acts.specs.Cursors.{Calls}
 use Rattle.session_acts.specs.Served as session
 use Rattle.session_acts.specs.Served.{EndsAs, TakesAtMost, Writes}
-use Rattle.session_acts.specs.Transcript as script
+use Rattle.session_acts.specs.Served as script
 use Rattle.session_acts.specs.Truths.{AreTrue, IsInRun, IsTrueBeginning, IsTrueService, ServicesAreTrue}
-use Rattle.session_acts.specs.Watching.{nothing_kept}
-use Rattle.session_acts.specs.declared.end.EndStatus.{EndStatus}
-use Rattle.session_acts.specs.declared.end.EndStatus.TheVariants.{Done, SourceFault, SinkFault, NoMemory, InputTooLong, Worn}
+use Rattle.session_acts.specs.Talking.{begun}
+use Rattle.dialogue.specs.declared.end.EndStatus.{EndStatus}
+use Rattle.dialogue.specs.declared.end.EndStatus.TheVariants.{Done, SourceFault, SinkFault, NoMemory, InputTooLong, Worn}
 use Rattle.store_core.specs.Stored.{empty}
 use Rattle.store_machine.specs.declared.machine.History.{History}
 use Rattle.chem_shell.specs.Ends.{ServesMem, ServesScript, with_status}
@@ -26,37 +26,22 @@ use Rattle.serve_ends.specs.declared.status.TheConstants.{DONE}
 -- requests that were answered whole are a beginning
 answered_begins : (page : ℕ) (lines : List TextLine) (calls : Calls) (text : List ℕ)
     → session.IsWholePrefix page lines calls text → script.IsTranscriptPrefix page lines calls text
-answered_begins page lines calls text (left, own, standing, dialogue, all) = (
-  own,
-  standing,
-  record {
-    left = left;
-    own = own;
-    replies = text;
-    kept = standing;
-    answered = dialogue;
-    last = inl (refl, refl, refl);
-  },
-  all,
-)
+answered_begins page lines calls text (own, kept, answered, all) = (own, kept, inl answered, all)
 
 whole_begins : (page : ℕ) (lines : List TextLine) (calls : Calls) (text : List ℕ)
     → script.IsTranscript page lines calls text → script.IsTranscriptPrefix page lines calls text
-whole_begins page lines calls text (own, standing, dialogue, all) =
-    answered_begins page lines calls text ([], own, standing, dialogue, all)
+whole_begins page lines calls text (own, kept, dialogue, all) =
+    answered_begins page lines calls text (own, kept, ([], dialogue), all)
+
+abbrev nothing_answered : (page : ℕ) (lines : List TextLine) → session.IsDialogue page lines lines [] [] (begun page)
+nothing_answered page lines =
+    record { exchanges = []; begin = refl; exchanged = refl; made = refl; said = refl }
 
 nothing_begins : (page : ℕ) (lines : List TextLine) → script.IsTranscriptPrefix page lines [] []
 nothing_begins page lines = (
   [],
-  nothing_kept,
-  record {
-    left = lines;
-    own = [];
-    replies = [];
-    kept = nothing_kept;
-    answered = record { exchanges = []; begin = refl; exchanged = (refl, refl); said = refl };
-    last = inl (refl, refl, refl);
-  },
+  begun page,
+  inl (lines, nothing_answered page lines),
   refl,
 )
 
@@ -115,8 +100,8 @@ nothing_is_true h page lines = record {
   left = lines;
   own = [];
   replies = [];
-  left_kept = nothing_kept;
-  dialogue = record { exchanges = []; begin = refl; exchanged = (refl, refl); said = refl };
+  left_kept = begun page;
+  dialogue = nothing_answered page lines;
   said = ([], refl);
   made = ([], refl);
   are_true = none_true h page;

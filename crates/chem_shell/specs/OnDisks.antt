@@ -7,7 +7,7 @@ use Rattle.journal_core.specs.Looks.{Narrows, Stays}
 use Rattle.io_edge.specs.Lines.{lines_of}
 use Rattle.session_acts.specs.Cursors.{Calls}
 use Rattle.session_acts.specs.Served.{TakesAtMost, Writes}
-use Rattle.session_acts.specs.Transcript.{WornAt}
+use Rattle.session_acts.specs.Served.{WornAt}
 use Rattle.session_acts.specs.Truths.{IsTrueBeginning}
 use Rattle.store_disk.specs.Loads.{OpensAfter, OpensTo}
 use Rattle.store_disk.specs.Stored.{AreClocked, IsCaused}

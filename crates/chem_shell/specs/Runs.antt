@@ -4,7 +4,7 @@ use Rattle.std.specs.Prelude.{◌≡◌, ℕ, List, true}
 use Rattle.std.specs.List.{AllByRecursion}
 use Rattle.io_edge.specs.Lines.{lines_of}
 use Rattle.session_acts.specs.Cursors.{Calls}
-use Rattle.session_acts.specs.Transcript as session
+use Rattle.session_acts.specs.Served as session
 use Rattle.session_acts.specs.Truths.{IsTrueBeginning, IsTrueTranscript}
 use Rattle.store_core.specs.Stored.{empty}
 use Rattle.store_machine.specs.Machine.{IsSure}

@@ -8,7 +8,7 @@ use Rattle.session_acts.specs.Cursors.{Calls}
 use Rattle.session_acts.specs.Served as session
 use Rattle.session_acts.specs.Served.{Writes, WritesForTaken}
 use Rattle.session_acts.specs.Truths.{IsTrueService}
-use Rattle.session_acts.specs.declared.end.EndStatus.{EndStatus}
+use Rattle.dialogue.specs.declared.end.EndStatus.{EndStatus}
 use Rattle.store_machine.specs.declared.machine.History.{History}
 use Rattle.chem_shell.specs.Status.{IsSinkStatus}
 use Rattle.serve_ends.specs.declared.status.TheConstants.{DONE, SINK_FAULT, NO_MEMORY}

@@ -3,7 +3,7 @@ use Rattle.std.specs.Prelude.{◌≡◌, ℕ, List, [], Option}
 use Rattle.chem_gen.specs.Script.{script_of}
 use Rattle.chem_gen.specs.Summary.{summary_of}
 use Rattle.session_acts.specs.Served.{Writes}
-use Rattle.session_acts.specs.Transcript.{IsPrefixOf}
+use Rattle.dialogue.specs.Dialogue.{IsPrefixOf}
 use Rattle.chem_shell.specs.Runs.{IsTranscript}
 use Rattle.chem_shell.specs.declared.request.Plan.{Plan}
 

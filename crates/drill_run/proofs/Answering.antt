@@ -25,7 +25,7 @@ use Rattle.session_run.specs.Standings.{standing_of}
 use Rattle.session_run.specs.Walks.{cursors_of}
 use Rattle.session_run.specs.declared.respond.Responder.{Responder}
 use Rattle.session_run.specs.declared.settings.Settings.{Settings}
-use Rattle.session_run.specs.declared.stop.Stop.TheVariants as stops
+use Rattle.dialogue.specs.declared.end.Stop.TheVariants as stops
 use Rattle.shell_lang.specs.Command.{TakesLines}
 use Rattle.shell_lang.specs.CommandView.{Takes}
 use Rattle.shell_lang.specs.Reply.{text_of}

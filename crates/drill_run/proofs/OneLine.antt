@@ -5,9 +5,9 @@ use Rattle.std.proofs.lemmas.Bool.{true≢false}
 use Rattle.io_edge.specs.Lines.{Whole}
 use Rattle.session_acts.specs.Acts.{Lines, RequestAnswer}
 use Rattle.session_acts.specs.Cursors.{Calls}
-use Rattle.session_acts.specs.Dialogue as session
+use Rattle.session_acts.specs.Talking as session
 use Rattle.session_acts.specs.Pins.{AreApart, AreHeld, HeldAfter}
-use Rattle.session_acts.specs.Requests.{Request}
+use Rattle.session_acts.specs.Requests.{Request, request_of}
 use Rattle.session_acts.specs.Watching.{Standing}
 use Rattle.session_acts.proofs.ActPins.{all_held}
 use Rattle.shell_lang.specs.Command.{TakesLines}
@@ -35,8 +35,8 @@ AreHolding ps all = (n : ℕ) → AreHeld (IsHeld ps n) (of_number n all).cursor
 -- what a line is to the session of a number, where these are its calls
 abbrev pub IsToldOf : ℕ → ℕ → Exchange → AllKept → Calls → AllKept → Type 0
 IsToldOf size number x all calls between =
-    ((y : session.Exchange) × IsOwnAs number x y
-    × RequestAnswer size (of_number number all) y.request calls y.lines (of_number number between))
+    ((y : session.Exchange) × IsOwnAs number x y × (y.calls ≡ calls)
+    × RequestAnswer size (of_number number all) (request_of y.request) y.calls y.reply (of_number number between))
     ⊎ (¬ IsOwn number x × (calls ≡ []) × (of_number number between ≡ of_number number all))
 
 -- the steps of a line, with its session's number
@@ -118,11 +118,11 @@ module _ (law : PinsStay) (size number n : ℕ) (x : Exchange) (before after : A
   one-session : (a b : ℕ) (l k : List ℕ) → Some (Session a l) ≡ Some (Session b k) → a ≡ b
   one-session a b l k e = cc e
 
-  abbrev own-exchange : session.Exchange
-  own-exchange = record { request = record { line = Whole line; more = [] }; lines = lines }
+  abbrev own-exchange : Calls → session.Exchange
+  own-exchange calls = record { request = Whole line ∷ []; calls = calls; reply = lines }
 
-  own-as : n ≡ number → IsOwnAs number x own-exchange
-  own-as e = record {
+  own-as : (calls : Calls) → n ≡ number → IsOwnAs number x (own-exchange calls)
+  own-as calls e = record {
     line = line;
     read = read ∙ ap (λ (q : ℕ). Some (Session q line)) e;
     alone = alone;
@@ -131,7 +131,8 @@ module _ (law : PinsStay) (size number n : ℕ) (x : Exchange) (before after : A
   }
 
   own-answer : (calls : Calls) → calls ≡ x.calls → n ≡ number
-      → RequestAnswer size (of_number number all_before) own-exchange.request calls lines (of_number number all_after)
+      → RequestAnswer size (of_number number all_before) (record { line = Whole line; more = [] }) calls lines
+      (of_number number all_after)
   own-answer calls same e =
       let request : Request = record { line = Whole line; more = [] } in
       let was : of_number number all_before ≡ kept = its-own number before after kept (sym e ∙ is) in
@@ -147,10 +148,12 @@ module _ (law : PinsStay) (size number n : ℕ) (x : Exchange) (before after : A
       → IsToldOf size number x all_before (calls_of (λ o. o == number) k.own) all_after) [
         | true ↦ λ e.
             let same : n ≡ number = eqb-true n number e in
+            let calls = calls_of (λ o. o == number) k.own in
             inl (
-              own-exchange,
-              own-as same,
-              own-answer (calls_of (λ o. o == number) k.own)
+              own-exchange calls,
+              own-as calls same,
+              refl,
+              own-answer calls
                   (own-calls n number k.own same k.calm k.by ∙ (k.events ∙ made)) same,
             )
         | false ↦ λ e.

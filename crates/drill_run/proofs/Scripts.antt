@@ -10,11 +10,11 @@ use Rattle.io_edge.specs.Lines.{Reading, TextLine, done_bytes, lines_left, whole
 use Rattle.io_edge.proofs.TextLines.{behind-none}
 use Rattle.session_acts.specs.Cursors.{Calls}
 use Rattle.session_acts.specs.Served.{TakesAll, TakesAtMost, TakesExactly, Writes, WritesForTaken}
-use Rattle.session_acts.specs.declared.end.EndStatus.{EndStatus}
-use Rattle.session_acts.specs.declared.end.EndStatus.TheVariants.{Done, SourceFault, SinkFault, NoMemory, InputTooLong, Worn}
-use Rattle.session_run.specs.Turn.{IsFresh, ReadsOn, TakesNone}
-use Rattle.session_run.proofs.Continued.{leaves, none_more}
-use Rattle.session_run.proofs.Wholes.{one_left, same_before, whole_and_one}
+use Rattle.dialogue.specs.declared.end.EndStatus.{EndStatus}
+use Rattle.dialogue.specs.declared.end.EndStatus.TheVariants.{Done, SourceFault, SinkFault, NoMemory, InputTooLong, Worn}
+use Rattle.drill_run.specs.Reads.{IsFresh, ReadsOn, TakesNone}
+use Rattle.dialogue.proofs.Reading.{leaves, none_more}
+use Rattle.dialogue.proofs.Wholes.{one_left, same_before, whole_and_one}
 use Rattle.store_disk.specs.InMemory.{StandsInMemory}
 use Rattle.drill_run.specs.Causes.{AreCaused, Tally, nothing_set, tally_after}
 use Rattle.drill_run.specs.Dialogue.{AllKept, AreExchanged, Exchange, calls_of, lines_of, replies_of}

@@ -2,7 +2,9 @@
 -- those of its own dialogue.
 use Rattle.std.proofs.Common.{◌≡◌, ◌==◌, ◌++◌, ◌∙◌, ap, append-nil, inl, inr, List, [], ◌∷◌, refl, subst, sym, ℕ}
 use Rattle.session_acts.specs.Cursors.{Calls}
-use Rattle.session_acts.specs.Dialogue as session
+use Rattle.dialogue.specs.Dialogue as session
+use Rattle.session_acts.specs.Talking.{Kept, sessions}
+use Rattle.session_acts.specs.Talking as talking
 use Rattle.session_acts.specs.Pins.{AreHeld}
 use Rattle.session_acts.specs.Truths.{AreTrue, DialoguesAreTrue}
 use Rattle.session_acts.specs.Watching.{Standing}
@@ -21,6 +23,10 @@ use Rattle.drill_run.proofs.Parts.{AreNone, Halves, calls-parts, exchanged-parts
 use Rattle.drill_run.proofs.Reowned.{Alike, IsHeld, with_pins}
 use Rattle.drill_run.proofs.OneLine.{AreHolding, IsToldOf, OneLine, by-read, no-event}
 
+-- what a session of a drill keeps, with the size of its pages
+abbrev kept_by : ℕ → ℕ → AllKept → Kept
+kept_by size number all = record { page = size; standing = of_number number all }
+
 -- the steps of a part, with their sessions' numbers, and the dialogue of one session
 record InPart (size number : ℕ) (part : List Exchange) (all all' : AllKept) (s : State) (ps : List Held) (t : State)
     : Type 0 where
@@ -28,10 +34,10 @@ record InPart (size number : ℕ) (part : List Exchange) (all all' : AllKept) (s
   own : List Step
   run : IsRun (with_pins s ps) own (with_pins t pins)
   calm : IsCalm own
-  dialogue : List session.Exchange
+  dialogue : List talking.Exchange
   are : AreOwn number part dialogue
-  exchanged : session.AreExchanged size (of_number number all) dialogue (calls_of (λ o. o == number) own)
-      (of_number number all')
+  exchanged : session.AreExchanged sessions (kept_by size number all) dialogue (kept_by size number all')
+  calls : session.calls_in sessions dialogue ≡ calls_of (λ o. o == number) own
 
 -- a line, and those behind it
 before-part : (size number : ℕ) (x : Exchange) (xs : List Exchange) (all between all' : AllKept) (s m t : State)
@@ -44,21 +50,16 @@ before-part size number x xs all between all' s m t ps o p = by o.told where
 
   by : IsToldOf size number x all (calls_of (λ n. n == number) o.own) between
       → InPart size number (x ∷ xs) all all' s ps t
-  by (inl (y, is, answer)) = record {
+  by (inl (y, is, its, answer)) = record {
     pins = p.pins;
     own = o.own ++ p.own;
     run = runs-join o.own p.own (with_pins s ps) (with_pins m o.pins) (with_pins t p.pins) o.run p.run;
     calm = calms-join o.own p.own o.calm p.calm;
     dialogue = y ∷ p.dialogue;
     are = inl (y, p.dialogue, refl, is, p.are);
-    exchanged = (
-      calls_of (λ n. n == number) o.own,
-      calls_of (λ n. n == number) p.own,
-      of_number number between,
-      answer,
-      joined,
-      p.exchanged,
-    );
+    exchanged = (kept_by size number between, (answer, refl), p.exchanged);
+    calls = ap (λ (l : Calls). l ++ session.calls_in sessions p.dialogue) its
+        ∙ (ap (λ (l : Calls). calls_of (λ n. n == number) o.own ++ l) p.calls ∙ sym joined);
   }
   by (inr (other, none, same)) =
       let calls : calls_of (λ n. n == number) (o.own ++ p.own) ≡ calls_of (λ n. n == number) p.own =
@@ -70,10 +71,9 @@ before-part size number x xs all between all' s m t ps o p = by o.told where
         calm = calms-join o.own p.own o.calm p.calm;
         dialogue = p.dialogue;
         are = inr (other, p.are);
-        exchanged = subst (λ (l : Calls). session.AreExchanged size (of_number number all) p.dialogue l
-            (of_number number all')) (sym calls)
-            (subst (λ (k : Standing). session.AreExchanged size k p.dialogue (calls_of (λ n. n == number) p.own)
-            (of_number number all')) same p.exchanged);
+        exchanged = subst (λ (k : Standing). session.AreExchanged sessions
+            (record { page = size; standing = k }) p.dialogue (kept_by size number all')) same p.exchanged;
+        calls = p.calls ∙ sym calls;
       }
 
 in-part : PinsStay → (size number : ℕ) (part : List Exchange) (all all' : AllKept) (s t : State) (ps : List Held)
@@ -86,7 +86,8 @@ in-part law size number [] all all' s t ps steps alike run made holding is h = r
   calm = tt;
   dialogue = [];
   are = refl;
-  exchanged = (refl, ap (λ (l : AllKept). of_number number l) h);
+  exchanged = ap (λ (l : AllKept). kept_by size number l) h;
+  calls = refl;
 }
 in-part law size number (x ∷ xs) all all' s t ps steps alike run made holding is h =
     let k : Halves s t steps x.calls (drill.calls_of xs) = halves s t steps x.calls (drill.calls_of xs) run made in
@@ -101,7 +102,7 @@ LastPartIsTrue =
     (size number : ℕ) (before part : List Exchange) (all : AllKept) (s t : State) (steps : List Step)
     → AreExchanged size all_empty (before ++ part) all → BeginsAnew before → IsPart part
     → IsSound s → IsRun s steps t → events_of steps ≡ drill.calls_of (before ++ part)
-    → (own : List session.Exchange) × AreOwn number part own × AreTrue t.history size own
+    → (own : List talking.Exchange) × AreOwn number part own × AreTrue t.history size own
 
 pub last-part : DialoguesAreTrue → RunsStaySound → PinsStay → LastPartIsTrue
 last-part dialogues sound_law pins size number before part all s t steps h anew is sound run made =
@@ -113,13 +114,11 @@ last-part dialogues sound_law pins size number before part all s t steps h anew 
     let there : IsSound m = sound_law s m k.front k.to sound in
     let p : InPart size number part r.0 all m m.pins t =
     in-part pins size number part r.0 all m t m.pins k.back refl k.from k.rest
-    (λ n. subst (λ (kept : Standing). AreHeld (IsHeld m.pins n) kept.cursors) (sym (none n)) tt) is r.2 in
-    let calls : Calls = calls_of (λ o. o == number) p.own in
-    let left : Standing = of_number number all in (
+    (λ n. subst (λ (kept : Standing). AreHeld (IsHeld m.pins n) kept.cursors) (sym (none n)) tt) is r.2 in (
       p.dialogue,
       p.are,
-      dialogues m (with_pins t p.pins) p.own (λ o. o == number) size p.dialogue calls [] left there p.run p.calm
-          (sym (append-nil calls))
-          (subst (λ (kept : Standing). session.AreExchanged size kept p.dialogue calls left) (none number)
-          p.exchanged),
+      dialogues m (with_pins t p.pins) p.own (λ o. o == number) size p.dialogue [] (kept_by size number all) there p.run
+          p.calm (sym p.calls ∙ sym (append-nil (session.calls_in sessions p.dialogue)))
+          (subst (λ (k : Standing). session.AreExchanged sessions (record { page = size; standing = k })
+          p.dialogue (kept_by size number all)) (none number) p.exchanged),
     )

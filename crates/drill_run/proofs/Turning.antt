@@ -5,9 +5,9 @@ use Rattle.io_edge.specs.Lines.{Reading, TextLine}
 use Rattle.io_edge.specs.NextLine.{OnLine}
 use Rattle.io_edge.specs.declared.lines.Line.{Line}
 use Rattle.io_edge.specs.declared.lines.Line.TheVariants as one
-use Rattle.session_acts.specs.declared.end.EndStatus.{EndStatus}
-use Rattle.session_acts.specs.declared.end.EndStatus.TheVariants.{Done, SourceFault, SinkFault, NoMemory, InputTooLong, Worn}
-use Rattle.session_run.specs.Turn.{IsNextLine}
+use Rattle.dialogue.specs.declared.end.EndStatus.{EndStatus}
+use Rattle.dialogue.specs.declared.end.EndStatus.TheVariants.{Done, SourceFault, SinkFault, NoMemory, InputTooLong, Worn}
+use Rattle.drill_run.specs.Reads.{IsNextLine}
 use Rattle.store_disk.specs.InMemory.{StandsInMemory}
 use Rattle.drill_run.specs.Dialogue.{AllKept}
 use Rattle.drill_run.specs.Turns.{Breaks, Ends, EndsIn, Goes, Puts, TakesLine, WorldTerm, line_by}

@@ -6,10 +6,10 @@ use Rattle.io_edge.specs.Lines as io
 use Rattle.io_edge.specs.Lines.{TextLine, whole_lines}
 use Rattle.session_acts.specs.Cursors.{Calls}
 use Rattle.session_acts.specs.Served.{IsInputFault, Writes, WritesForTaken}
-use Rattle.session_acts.specs.Transcript.{IsPrefixOf}
+use Rattle.dialogue.specs.Dialogue.{IsPrefixOf}
 use Rattle.session_acts.specs.Watching.{nothing_kept}
-use Rattle.session_acts.specs.declared.end.EndStatus.{EndStatus}
-use Rattle.session_acts.specs.declared.end.EndStatus.TheVariants.{Done, InputTooLong, SourceFault, Worn}
+use Rattle.dialogue.specs.declared.end.EndStatus.{EndStatus}
+use Rattle.dialogue.specs.declared.end.EndStatus.TheVariants.{Done, InputTooLong, SourceFault, Worn}
 use Rattle.store_machine.specs.Runs.{IsRun}
 use Rattle.store_machine.specs.declared.machine.State.{State}
 use Rattle.store_machine.specs.declared.machine.Step.{Step}

@@ -4,5 +4,6 @@ pub mod Dialogue
 pub mod Causes
 pub mod Drilled
 pub mod Views
+pub mod Reads
 pub mod Turns
 pub mod Truths

@@ -3,7 +3,7 @@
 use Rattle.std.specs.Prelude.{◌≡◌, ◌⊎◌, ℕ, List, [], ◌∷◌, ◌++◌, Some}
 use Rattle.io_edge.specs.Lines.{Whole}
 use Rattle.session_acts.specs.Cursors.{Calls}
-use Rattle.session_acts.specs.Dialogue as session
+use Rattle.session_acts.specs.Talking as session
 use Rattle.session_acts.specs.Truths.{AreTrue}
 use Rattle.shell_lang.specs.Command.{TakesLines}
 use Rattle.shell_lang.specs.Reply.{text_of}
@@ -30,8 +30,8 @@ pub record IsOwnAs (number : ℕ) (x : Exchange) (own : session.Exchange) : Type
   pub line : List ℕ
   pub read : x.read ≡ Some (Session number line)
   pub alone : ¬ TakesLines line
-  pub request : own.request ≡ record { line = Whole line; more = [] }
-  pub said : x.text ≡ numbered number (text_of own.lines)
+  pub request : own.request ≡ Whole line ∷ []
+  pub said : x.text ≡ numbered number (text_of own.reply)
 
 -- the session's own dialogue in a drill: its lines with their replies, in order
 abbrev pub AreOwn : ℕ → List Exchange → List session.Exchange → Type 0

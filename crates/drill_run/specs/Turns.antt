@@ -14,10 +14,10 @@ use Rattle.session_acts.specs.Acts.{Lines}
 use Rattle.session_acts.specs.Cursors.{Calls, Cursor, Makes}
 use Rattle.session_acts.specs.Pins.{AreHeld, MovePins}
 use Rattle.session_acts.specs.Watching.{Standing}
-use Rattle.session_acts.specs.declared.end.EndStatus.{EndStatus}
-use Rattle.session_acts.specs.declared.end.EndStatus.TheVariants.{Done, SourceFault, SinkFault, NoMemory, InputTooLong, Worn}
+use Rattle.dialogue.specs.declared.end.EndStatus.{EndStatus}
+use Rattle.dialogue.specs.declared.end.EndStatus.TheVariants.{Done, SourceFault, SinkFault, NoMemory, InputTooLong, Worn}
 use Rattle.session_run.specs.Responds.{IsFit}
-use Rattle.session_run.specs.Turn.{ReadsLines}
+use Rattle.drill_run.specs.Reads.{ReadsLines}
 use Rattle.session_run.specs.declared.respond.Responder.{Responder}
 use Rattle.session_run.specs.declared.settings.Settings.{Settings}
 use Rattle.store_core.specs.Calls.{NotRaised}

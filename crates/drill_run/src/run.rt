@@ -6,7 +6,7 @@ ghost use Rattle.io_edge.specs.Lines.{TextLine, done_bytes};
 ghost use Rattle.session_acts.specs.Cursors.{Calls};
 ghost use Rattle.session_acts.specs.Served.{EndsAs};
 ghost use Rattle.session_run.specs.Servable.{IsServable};
-ghost use Rattle.session_run.specs.Turn.{IsFresh, IsNextLine, ReadsOn, TakesNone};
+ghost use Rattle.drill_run.specs.Reads.{IsFresh, IsNextLine, ReadsOn, TakesNone};
 ghost use Rattle.store_core.specs.Stored.{empty};
 ghost use Rattle.store_disk.specs.InMemory.{StandsInMemory};
 ghost use Rattle.drill_run.specs.Drilled.{IsDrilledBy, Runs, all_empty};

@@ -3,8 +3,8 @@ use Rattle.std.proofs.Common.{◌≡◌, ◌∙◌, ap, arith, refl, Some, subst
 use Rattle.io_edge.specs.declared.sinks.Sink as put
 use Rattle.io_edge.specs.declared.sources.Source as taken
 use Rattle.session_acts.specs.Cursors.{Calls, Makes}
-use Rattle.session_acts.specs.declared.end.EndStatus.{EndStatus}
-use Rattle.session_acts.specs.declared.end.EndStatus.TheVariants as status
+use Rattle.dialogue.specs.declared.end.EndStatus.{EndStatus}
+use Rattle.dialogue.specs.declared.end.EndStatus.TheVariants as status
 use Rattle.session_run.specs.declared.settings.Settings.{Settings}
 use Rattle.turn_gate.specs.Numbers.{has}
 use Rattle.hall.specs.declared.desk.Desk.{Desk}

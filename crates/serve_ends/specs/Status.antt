@@ -1,7 +1,7 @@
 -- For callers: the status of an end, by how its session ended.
 use Rattle.std.specs.Prelude.{◌≡◌, ℕ}
-use Rattle.session_acts.specs.declared.end.EndStatus.{EndStatus}
-use Rattle.session_acts.specs.declared.end.EndStatus.TheVariants.{Done, SourceFault, SinkFault, NoMemory, InputTooLong, Worn}
+use Rattle.dialogue.specs.declared.end.EndStatus.{EndStatus}
+use Rattle.dialogue.specs.declared.end.EndStatus.TheVariants.{Done, SourceFault, SinkFault, NoMemory, InputTooLong, Worn}
 use Rattle.serve_ends.specs.declared.status.TheConstants.{DONE, SOURCE_FAULT, SINK_FAULT, NO_MEMORY, INPUT_TOO_LONG, WORN}
 
 abbrev pub IsStatusOf : EndStatus → ℕ → Type 0

@@ -5,9 +5,11 @@ use Rattle.store_core.specs.Calls.{SameHeld}
 use Rattle.store_machine.specs.declared.machine.Event.TheVariants as events
 use Rattle.session_acts.specs.Acts.{Act, Asks, Closed, Does, DoesAll, DoesWatch, FoundData, Lines, ListedSame, ListedSimilar, Opened, RegisteredEach, RegisteredNew, Says, Searched, Searches, Turned}
 use Rattle.session_acts.specs.Cursors.{Calls, Cursor}
-use Rattle.session_acts.specs.Dialogue.{AreExchanged, Exchange}
+use Rattle.dialogue.specs.Dialogue.{AreExchanged, calls_in}
+use Rattle.session_acts.specs.Talking.{Exchange}
 use Rattle.session_acts.specs.Pins.{AreApart, AreHeld, HeldAfter, HeldBy, Returns, SameOthers}
 use Rattle.session_acts.specs.Watching.{Standing, Watched}
+use Rattle.session_acts.proofs.Sized.{sized}
 use Rattle.session_acts.proofs.Acts.{quiet_ask, quiet_data, quiet_each}
 use Rattle.session_acts.proofs.Held.{after-append, apart-parts, held-added, held-moved, held-same, held-without, leave-same, others-added, others-moved, others-without, same_held, same_others, same_others-more}
 use Rattle.session_acts.proofs.LookedUp.{fetches_leave, looked_held, new_looks, pin_returned, same_looks, similar_looks}
@@ -111,14 +113,12 @@ all_others {standing = standing} {calls = calls} a (inr d) apart =
     (same_others a (HeldAfter a calls) standing.cursors (watch_same a d.0 apart))
 
 -- those of a dialogue
-pub dialogue_held : (a : ℕ → ℕ → Type 0) (size : ℕ) (xs : List Exchange) (calls : Calls) (standing standing' : Standing)
-    → AreExchanged size standing xs calls standing' → AreApart a calls → AreHeld a standing.cursors
-    → AreHeld (HeldAfter a calls) standing'.cursors
-dialogue_held a size [] calls standing standing' x apart h =
-    subst (λ (cs : Calls). AreHeld (HeldAfter a cs) standing'.cursors) (sym x.0)
-    (subst (λ (k : Standing). AreHeld a k.cursors) (sym x.1) h)
-dialogue_held a size (x ∷ xs) calls standing standing' d apart h =
-    let parts = apart-parts a d.0 d.1 (subst (AreApart a) d.4 apart) in
-    subst (λ (cs : Calls). AreHeld (HeldAfter a cs) standing'.cursors) (sym d.4)
-    (subst (λ (f : ℕ → ℕ → Type 0). AreHeld f standing'.cursors) (sym (after-append a d.0 d.1))
-    (dialogue_held (HeldAfter a d.0) size xs d.1 d.2 standing' d.5 parts.1 (all_held a d.3.does parts.0 h)))
+pub dialogue_held : (a : ℕ → ℕ → Type 0) (size : ℕ) (xs : List Exchange) (standing standing' : Standing)
+    → AreExchanged (sized size) standing xs standing' → AreApart a (calls_in (sized size) xs)
+    → AreHeld a standing.cursors → AreHeld (HeldAfter a (calls_in (sized size) xs)) standing'.cursors
+dialogue_held a size [] standing standing' x apart h = subst (λ (k : Standing). AreHeld a k.cursors) (sym x) h
+dialogue_held a size (x ∷ xs) standing standing' d apart h =
+    let more = calls_in (sized size) xs in
+    let parts = apart-parts a x.calls more apart in
+    subst (λ (f : ℕ → ℕ → Type 0). AreHeld f standing'.cursors) (sym (after-append a x.calls more))
+    (dialogue_held (HeldAfter a x.calls) size xs d.0 standing' d.2 parts.1 (all_held a d.1.does parts.0 h))

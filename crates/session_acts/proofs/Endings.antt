@@ -1,12 +1,15 @@
 -- The end of a search among reply lines, and what a page says.
-use Rattle.std.proofs.Common.{◌≡◌, ◌++◌, ◌<◌, ◌≤◌, ◌↔◌, ◌∙◌, ap, arith, Bool, cond, Contains, false, leb-false, leb-true, nat_le, inl, inr, length, List, [], ◌∷◌, map, refl, subst, sym, true, ℕ}
+use Rattle.std.proofs.Common.{◌≡◌, ◌++◌, ◌<◌, ◌≤◌, ◌↔◌, ◌∙◌, ap, append-nil, append_assoc, arith, Bool, cond, Contains, false, leb-false, leb-true, nat_le, inl, inr, length, List, [], ◌∷◌, map, refl, subst, sym, true, ℕ}
 use Rattle.std.proofs.lemmas.Bool.{true≢false}
 use Rattle.std.proofs.lemmas.List.Elements.{Contains-append_right}
+use Rattle.shell_lang.specs.Command as command
 use Rattle.shell_lang.specs.Reply as line
 use Rattle.store_machine.specs.Searches.{At, End, Place, past}
 use Rattle.session_acts.specs.Acts.{Advances, Ended, IsCutShort, Lines, Lists, Lost, Paged, after_page, page_end}
 use Rattle.session_acts.specs.Cursors.{Calls, Cursor}
-use Rattle.session_acts.specs.Dialogue.{GivePage, hits_in}
+use Rattle.session_acts.specs.Dialogue.{AreListed, GivePage, IsCommand, hits_in}
+use Rattle.session_acts.specs.Requests.{request_of}
+use Rattle.session_acts.specs.Talking.{Exchange}
 use Rattle.session_acts.proofs.Passing.{behind_hits, hit_or_more, hits_listed, last_or_more, one_in}
 
 -- The end among lines
@@ -106,3 +109,20 @@ advance_end {c = c} version tried count (Paged from records last hits at m) k =
     (ap (λ (b : Bool). cond b End (At (past from records))) e.0, e.1)
 advance_end version tried count (Lost from at) k =
     absurd (fault_or_end version tried count (one_in line.MemoryFault (line.End version tried count) k))
+
+-- what was listed up to a last page
+pub listed_parts : (name : List ℕ) (xs : List Exchange) (y : Exchange) (hits : List ℕ) → AreListed name (xs ++ y ∷ []) hits
+    → IsCommand (request_of y.request) (command.Next name)
+    → (more : List ℕ) × AreListed name xs more × (hits ≡ more ++ hits_in y.reply)
+listed_parts name [] y hits (inl k) is =
+    ([], refl, k.2 ∙ (ap (λ (l : List ℕ). hits_in y.reply ++ l) k.3 ∙ append-nil (hits_in y.reply)))
+listed_parts name [] y hits (inr k) is = absurd (k.0 is)
+listed_parts name (x ∷ xs) y hits (inl k) is =
+    let r = listed_parts name xs y k.1 k.3 is in (
+      hits_in x.reply ++ r.0,
+      inl (k.0, r.0, refl, r.1),
+      k.2
+          ∙ (ap (λ (l : List ℕ). hits_in x.reply ++ l) r.2
+          ∙ sym (append_assoc (hits_in x.reply) r.0 (hits_in y.reply))),
+    )
+listed_parts name (x ∷ xs) y hits (inr k) is = let r = listed_parts name xs y hits k.1 is in (r.0, inr (k.0, r.1), r.2)

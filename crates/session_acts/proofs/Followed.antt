@@ -12,15 +12,18 @@ use Rattle.store_machine.specs.declared.machine.Event.TheVariants as events
 use Rattle.store_machine.specs.declared.machine.Reply.TheVariants as replies
 use Rattle.session_acts.specs.Acts.{Act, Advances, Allows, Asks, Close, Closed, Does, DoesAll, FoundData, Lines, ListedSame, ListedSimilar, Opened, RegisteredEach, RegisteredNew, RequestAllows, Says, Searched, Searches, Turn, Turned, new_cursor}
 use Rattle.session_acts.specs.Cursors.{Calls, Cursor, IsNoName}
-use Rattle.session_acts.specs.Dialogue.{AreExchanged, AreListed, AreTurned, Exchange, IsCommand, StaysOpen, hits_in}
+use Rattle.dialogue.specs.Dialogue.{AreExchanged, calls_in}
+use Rattle.session_acts.specs.Dialogue.{AreListed, AreTurned, IsCommand, StaysOpen, hits_in}
+use Rattle.session_acts.specs.Talking.{Exchange}
 use Rattle.session_acts.specs.Pins.{AreHeld, HeldAfter}
-use Rattle.session_acts.specs.Requests.{Request}
+use Rattle.session_acts.specs.Requests.{Request, request_of}
 use Rattle.session_acts.specs.Watching.{Standing}
+use Rattle.session_acts.proofs.Sized.{sized}
 use Rattle.session_acts.proofs.Acts.{OneReading, fits, quiet_ask, quiet_data, quiet_each, quiet_note}
 use Rattle.session_acts.proofs.LookedUp.{IsLookup, looked_first, looked_pass, new_looks, same_looks, similar_looks}
 use Rattle.session_acts.proofs.Passing.{IsOpen, IsTurn, PassBy, advances_fetch, advances_same, fetches_pass, open_advances, open_passes, passes-append}
 use Rattle.session_acts.proofs.WatchActs.{next_apart, watch_is, watch_looks}
-use Rattle.session_acts.proofs.Pinned.{AreFree, IsPinned, grouped, new_slot, next_calls, none, pinned}
+use Rattle.session_acts.proofs.Pinned.{AreFree, IsPinned, new_slot, next_calls, none, pinned}
 
 -- the command of a request that turns a page or closes a cursor
 pub turn_command : (standing : Standing) (request : Request) (own : List ℕ) → RequestAllows standing request (Turn own)
@@ -394,33 +397,35 @@ module _ (reading : OneReading) (whole : Calls) (free : AreFree whole) (size : �
       ])
 
   -- through a dialogue
-  pub follow_all : (xs : List Exchange) (calls its later : Calls) (standing standing' : Standing) (hits more : List ℕ)
-      → whole ≡ calls ++ (its ++ later)
-      → AreExchanged size standing xs its standing' → StaysOpen name xs → AreListed name xs more
+  pub follow_all : (xs : List Exchange) (calls later : Calls) (standing standing' : Standing) (hits more : List ℕ)
+      → whole ≡ calls ++ (calls_in (sized size) xs ++ later)
+      → AreExchanged (sized size) standing xs standing' → StaysOpen name xs → AreListed name xs more
       → Follows size calls standing.cursors name pattern version hits
-      → Follows size (calls ++ its) standing'.cursors name pattern version (hits ++ more)
-  follow_all [] calls its later standing standing' hits more w a kept listed f =
-      rw (a.0, a.1, listed, append-nil, append-nil) f
-  follow_all (x ∷ xs) calls its later standing standing' hits more w a kept listed f =
-      let n = next_calls whole calls its a.0 a.1 later w a.4 in
+      → Follows size (calls ++ calls_in (sized size) xs) standing'.cursors name pattern version (hits ++ more)
+  follow_all [] calls later standing standing' hits more w a kept listed f =
+      rw (a, listed, append-nil, append-nil) f
+  follow_all (x ∷ xs) calls later standing standing' hits more w a kept listed f =
+      let rest_calls = calls_in (sized size) xs in
+      let request = request_of x.request in
+      let n = next_calls whole calls x.calls rest_calls later w in
       elim listed [
         | inl k ↦
-            let one = follow_any calls a.0 (a.1 ++ later) standing a.2 x.request x.lines hits (hits_in x.lines) a.3.act n.0
-            a.3.allowed a.3.does kept.0 (inl (k.0, refl)) f in
-            let rest = follow_all xs (calls ++ a.0) a.1 later a.2 standing' (hits ++ hits_in x.lines) k.1 n.1 a.5 kept.1
+            let one = follow_any calls x.calls (rest_calls ++ later) standing a.0 request x.reply hits (hits_in x.reply) a.1.act n.0
+            a.1.allowed a.1.does kept.0 (inl (k.0, refl)) f in
+            let rest = follow_all xs (calls ++ x.calls) later a.0 standing' (hits ++ hits_in x.reply) k.1 n.1 a.2 kept.1
             k.3 one.0 in
             subst (λ (l : Calls). Follows size l standing'.cursors name pattern version (hits ++ more))
-            (grouped calls its a.0 a.1 a.4)
-            (subst (λ (l : List ℕ). Follows size ((calls ++ a.0) ++ a.1) standing'.cursors name pattern version l)
-            (append_assoc hits (hits_in x.lines) k.1 ∙ ap (λ (l : List ℕ). hits ++ l) (sym k.2)) rest)
+            (append_assoc calls x.calls rest_calls)
+            (subst (λ (l : List ℕ). Follows size ((calls ++ x.calls) ++ rest_calls) standing'.cursors name pattern version l)
+            (append_assoc hits (hits_in x.reply) k.1 ∙ ap (λ (l : List ℕ). hits ++ l) (sym k.2)) rest)
         | inr k ↦
-            let one = follow_any calls a.0 (a.1 ++ later) standing a.2 x.request x.lines hits [] a.3.act n.0 a.3.allowed a.3.does
+            let one = follow_any calls x.calls (rest_calls ++ later) standing a.0 request x.reply hits [] a.1.act n.0 a.1.allowed a.1.does
             kept.0 (inr (k.0, refl)) f in
-            let rest = follow_all xs (calls ++ a.0) a.1 later a.2 standing' (hits ++ []) more n.1 a.5 kept.1 k.1 one.0
+            let rest = follow_all xs (calls ++ x.calls) later a.0 standing' (hits ++ []) more n.1 a.2 kept.1 k.1 one.0
             in
             subst (λ (l : Calls). Follows size l standing'.cursors name pattern version (hits ++ more))
-            (grouped calls its a.0 a.1 a.4)
-            (subst (λ (l : List ℕ). Follows size ((calls ++ a.0) ++ a.1) standing'.cursors name pattern version (l ++ more))
+            (append_assoc calls x.calls rest_calls)
+            (subst (λ (l : List ℕ). Follows size ((calls ++ x.calls) ++ rest_calls) standing'.cursors name pattern version (l ++ more))
             (append-nil hits) rest)
       ]
 
@@ -429,38 +434,39 @@ module _ (reading : OneReading) (whole : Calls) (free : AreFree whole) (size : �
   Turned_to calls cursors k = (hits : List ℕ) × (f : Follows size calls cursors name pattern version hits)
       × (f.turned ≡ k) × (from : ℕ) × (f.c.place ≡ At from)
 
-  pub turn_all : (xs : List Exchange) (calls its later : Calls) (standing standing' : Standing) (k n : ℕ)
-      → whole ≡ calls ++ (its ++ later)
-      → AreExchanged size standing xs its standing' → StaysOpen name xs → AreTurned name xs n
-      → Turned_to calls standing.cursors k → Turned_to (calls ++ its) standing'.cursors (k + n)
-  turn_all [] calls its later standing standing' k n w a kept turned t =
-      let same : calls ++ its ≡ calls = ap (λ (l : Calls). calls ++ l) a.0 ∙ append-nil calls in
+  pub turn_all : (xs : List Exchange) (calls later : Calls) (standing standing' : Standing) (k n : ℕ)
+      → whole ≡ calls ++ (calls_in (sized size) xs ++ later)
+      → AreExchanged (sized size) standing xs standing' → StaysOpen name xs → AreTurned name xs n
+      → Turned_to calls standing.cursors k → Turned_to (calls ++ calls_in (sized size) xs) standing'.cursors (k + n)
+  turn_all [] calls later standing standing' k n w a kept turned t =
       let none_more : k ≡ k + n = omega (arith, turned) in
-      subst (λ (l : Calls). Turned_to l standing'.cursors (k + n)) (sym same)
-      (subst (λ (l : Standing). Turned_to calls l.cursors (k + n)) (sym a.1)
+      subst (λ (l : Calls). Turned_to l standing'.cursors (k + n)) (sym (append-nil calls))
+      (subst (λ (l : Standing). Turned_to calls l.cursors (k + n)) (sym a)
       (subst (λ (m : ℕ). Turned_to calls standing.cursors m) none_more t))
-  turn_all (x ∷ xs) calls its later standing standing' k n w a kept turned (hits, f, turns, from, at) =
-      let m = next_calls whole calls its a.0 a.1 later w a.4 in
-      let step = λ (more : List ℕ) (adds : Adds name x.request x.lines more). follow_any calls a.0 (a.1 ++ later) standing
-      a.2 x.request x.lines hits more a.3.act m.0 a.3.allowed a.3.does kept.0 adds f in
-      subst (λ (l : Calls). Turned_to l standing'.cursors (k + n)) (grouped calls its a.0 a.1 a.4)
+  turn_all (x ∷ xs) calls later standing standing' k n w a kept turned (hits, f, turns, from, at) =
+      let rest_calls = calls_in (sized size) xs in
+      let request = request_of x.request in
+      let m = next_calls whole calls x.calls rest_calls later w in
+      let step = λ (more : List ℕ) (adds : Adds name request x.reply more). follow_any calls x.calls (rest_calls ++ later) standing
+      a.0 request x.reply hits more a.1.act m.0 a.1.allowed a.1.does kept.0 adds f in
+      subst (λ (l : Calls). Turned_to l standing'.cursors (k + n)) (append_assoc calls x.calls rest_calls)
       (elim turned [
         | inl p ↦
-            let one = step (hits_in x.lines) (inl (p.0, refl)) in
+            let one = step (hits_in x.reply) (inl (p.0, refl)) in
             let s = (one.1.turns p.0).more p.1 in
             let sum : (k + 1) + p.2 ≡ k + n = omega (arith, p.3) in
-            subst (λ (q : ℕ). Turned_to ((calls ++ a.0) ++ a.1) standing'.cursors q) sum
-            (turn_all xs (calls ++ a.0) a.1 later a.2 standing' (k + 1) p.2 m.1 a.5 kept.1 p.4
-            (hits ++ hits_in x.lines, one.0, s.0 ∙ ap (λ (q : ℕ). q + 1) turns, s.1, s.2))
+            subst (λ (q : ℕ). Turned_to ((calls ++ x.calls) ++ rest_calls) standing'.cursors q) sum
+            (turn_all xs (calls ++ x.calls) later a.0 standing' (k + 1) p.2 m.1 a.2 kept.1 p.4
+            (hits ++ hits_in x.reply, one.0, s.0 ∙ ap (λ (q : ℕ). q + 1) turns, s.1, s.2))
         | inr (inl p) ↦
-            let one = step (hits_in x.lines) (inl (p.0, refl)) in
+            let one = step (hits_in x.reply) (inl (p.0, refl)) in
             let s = (one.1.turns p.0).lost p.1 in
-            turn_all xs (calls ++ a.0) a.1 later a.2 standing' k n m.1 a.5 kept.1 p.2
-            (hits ++ hits_in x.lines, one.0, s.0 ∙ turns, from, s.1 ∙ at)
+            turn_all xs (calls ++ x.calls) later a.0 standing' k n m.1 a.2 kept.1 p.2
+            (hits ++ hits_in x.reply, one.0, s.0 ∙ turns, from, s.1 ∙ at)
         | inr (inr p) ↦
             let one = step [] (inr (p.0, refl)) in
             let s = one.1.other p.0 in
-            turn_all xs (calls ++ a.0) a.1 later a.2 standing' k n m.1 a.5 kept.1 p.1
+            turn_all xs (calls ++ x.calls) later a.0 standing' k n m.1 a.2 kept.1 p.1
             (hits ++ [], one.0, s.0 ∙ turns, from, s.1 ∙ at)
       ])
 

@@ -1,4 +1,4 @@
-pub mod Exchanges
+pub mod Sized
 pub mod Held
 pub mod Listings
 pub mod Parting

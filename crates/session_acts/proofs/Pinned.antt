@@ -12,10 +12,13 @@ use Rattle.store_machine.specs.declared.machine.Reply.TheVariants as replies
 use Rattle.store_machine.specs.Told.{IsTold}
 use Rattle.session_acts.specs.Acts.{Act, Advances, AllSame, AllSimilar, Asks, Closed, Current, Does, DoesAll, DoesWatch, Ended, FoundData, HitsLost, IsCutShort, IsNew, Lines, ListedSame, ListedSimilar, Lists, ListsSame, ListsSimilar, Lost, NewLost, NotNew, Opened, Paged, Refilled, RegisteredEach, RegisteredNew, RegistersNew, SameLost, Says, Searched, SimilarLost, TakenOut, Turned, WatchLost, WatchedAll, after_page, like_line, page_end}
 use Rattle.session_acts.specs.Cursors.{Calls, Cursor}
-use Rattle.session_acts.specs.Dialogue.{AreExchanged, Exchange, IsShown, IsShownIn}
+use Rattle.dialogue.specs.Dialogue.{AreExchanged, calls_in}
+use Rattle.session_acts.specs.Dialogue.{IsShown, IsShownIn}
+use Rattle.session_acts.specs.Talking.{Exchange}
 use Rattle.session_acts.specs.Lookups.{LooksUp}
 use Rattle.session_acts.specs.Pins.{AreApart, AreHeld, HeldAfter, HeldBy, IsApart, effect}
 use Rattle.session_acts.specs.Watching.{Standing, Watched, rebuilt_watch}
+use Rattle.session_acts.proofs.Sized.{sized}
 use Rattle.session_acts.proofs.ActPins.{all_held}
 use Rattle.session_acts.proofs.Acts.{quiet_ask, quiet_data, quiet_each, quiet_note, told_left, told_right}
 use Rattle.session_acts.proofs.Held.{after-append, after-under, apart-parts, held-at}
@@ -231,29 +234,28 @@ shown_all : {size : ℕ} {standing standing' : Standing} {act : Act} (calls : Ca
 shown_all calls v (inl d) h k = shown_then calls v d.0 h k
 shown_all calls {its} v (inr d) h k = told_right calls its v (watch_shown v d.0 k)
 
-pub grouped : (calls its own more : Calls) → its ≡ own ++ more → (calls ++ own) ++ more ≡ calls ++ its
-grouped calls its own more e = append_assoc calls own more ∙ ap (λ (l : Calls). calls ++ l) (sym e)
-
 -- and those that a dialogue shows
-pub dialogue_shown : (size : ℕ) (xs : List Exchange) (calls its : Calls) (standing standing' : Standing)
-    → AreExchanged size standing xs its standing' → AreApart (HeldAfter none calls) its
-    → AreHeld (HeldAfter none calls) standing.cursors → (v : ℕ) → IsShown xs v → IsTold (calls ++ its) v
-dialogue_shown size [] calls its standing standing' d apart h v k = absurd k
-dialogue_shown size (x ∷ xs) calls its standing standing' d apart h v k =
+pub dialogue_shown : (size : ℕ) (xs : List Exchange) (calls : Calls) (standing standing' : Standing)
+    → AreExchanged (sized size) standing xs standing' → AreApart (HeldAfter none calls) (calls_in (sized size) xs)
+    → AreHeld (HeldAfter none calls) standing.cursors → (v : ℕ) → IsShown xs v
+    → IsTold (calls ++ calls_in (sized size) xs) v
+dialogue_shown size [] calls standing standing' d apart h v k = absurd k
+dialogue_shown size (x ∷ xs) calls standing standing' d apart h v k =
+    let more = calls_in (sized size) xs in
     let held : ℕ → ℕ → Type 0 = HeldAfter none calls in
-    let parts = apart-parts held d.0 d.1 (subst (AreApart held) d.4 apart) in
-    let same : HeldAfter held d.0 ≡ HeldAfter none (calls ++ d.0) = sym (after-append none calls d.0) in
-    subst (λ (l : Calls). IsTold l v) (grouped calls its d.0 d.1 d.4) (elim k [
-      | inl now ↦ told_left (calls ++ d.0) d.1 v (shown_all calls v d.3.does h now)
-      | inr later ↦ dialogue_shown size xs (calls ++ d.0) d.1 d.2 standing' d.5
-          (subst (λ (f : ℕ → ℕ → Type 0). AreApart f d.1) same parts.1)
-          (subst (λ (f : ℕ → ℕ → Type 0). AreHeld f d.2.cursors) same (all_held held d.3.does parts.0 h)) v later
+    let parts = apart-parts held x.calls more apart in
+    let same : HeldAfter held x.calls ≡ HeldAfter none (calls ++ x.calls) = sym (after-append none calls x.calls) in
+    subst (λ (l : Calls). IsTold l v) (append_assoc calls x.calls more) (elim k [
+      | inl now ↦ told_left (calls ++ x.calls) more v (shown_all calls v d.1.does h now)
+      | inr later ↦ dialogue_shown size xs (calls ++ x.calls) d.0 standing' d.2
+          (subst (λ (f : ℕ → ℕ → Type 0). AreApart f more) same parts.1)
+          (subst (λ (f : ℕ → ℕ → Type 0). AreHeld f d.0.cursors) same (all_held held d.1.does parts.0 h)) v later
     ])
 
 -- the calls of a dialogue behind calls
-pub next_calls : (whole calls its own more later : Calls) → whole ≡ calls ++ (its ++ later) → its ≡ own ++ more
+pub next_calls : (whole calls own more later : Calls) → whole ≡ calls ++ ((own ++ more) ++ later)
     → (whole ≡ calls ++ (own ++ (more ++ later))) × (whole ≡ (calls ++ own) ++ (more ++ later))
-next_calls whole calls its own more later w e =
+next_calls whole calls own more later w =
     let first : whole ≡ calls ++ (own ++ (more ++ later)) =
-    w ∙ (ap (λ (l : Calls). calls ++ (l ++ later)) e ∙ ap (λ (l : Calls). calls ++ l) (append_assoc own more later)) in
+    w ∙ ap (λ (l : Calls). calls ++ l) (append_assoc own more later) in
     (first, first ∙ sym (append_assoc calls own (more ++ later)))

@@ -1,96 +1,103 @@
 -- What a session served is true: its dialogue's calls are the first of its calls in the run.
 use Rattle.std.proofs.Common.{◌≡◌, ◌⊎◌, ◌++◌, ◌∙◌, ap, append-nil, append_assoc, inl, inr, List, [], ◌∷◌, subst, sym, ℕ}
+use Rattle.dialogue.proofs.Exchanges.{begin-more, calls-more, exchanged-more, text-more}
+use Rattle.dialogue.specs.Dialogue.{BeginWith, IsCut, IsPut, Stops, calls_in}
+use Rattle.dialogue.specs.Talked.{Begins, InAnswer, InClosing}
+use Rattle.dialogue.specs.declared.end.EndStatus.TheVariants.{Done, SourceFault, SinkFault, NoMemory, InputTooLong, Worn}
 use Rattle.io_edge.specs.Lines.{TextLine}
 use Rattle.shell_lang.specs.Reply.{text_of}
 use Rattle.store_machine.specs.Runs.{calls_of}
 use Rattle.store_machine.specs.declared.machine.History.{History}
-use Rattle.session_acts.specs.Acts.{Lines, RequestAnswer}
+use Rattle.session_acts.specs.Acts.{Lines}
 use Rattle.session_acts.specs.Cursors.{Calls, unpins}
-use Rattle.session_acts.specs.Dialogue.{AreExchanged, Exchange}
-use Rattle.session_acts.specs.Requests.{Request, BeginWith}
-use Rattle.session_acts.specs.Transcript.{InAnswer, InClosing, IsDialogue, IsPrefixOf, IsTranscript, IsTranscriptPrefix, Stops, WornAt}
-use Rattle.session_acts.specs.Served.{IsWholePrefix}
-use Rattle.session_acts.specs.Watching.{Standing, nothing_kept}
+use Rattle.session_acts.specs.Served.{IsDialogue, IsPrefixOf, IsTranscript, IsTranscriptPrefix, IsWholePrefix, WornAt}
+use Rattle.session_acts.specs.Talking.{Exchange, Kept, begun, sessions}
 use Rattle.session_acts.specs.Truths.{AreTrue, DialoguesAreTrue, IsInRun, IsTrueBeginning, IsTrueTranscript, ServicesAreTrue}
-use Rattle.session_acts.specs.declared.end.EndStatus.TheVariants.{Done, SourceFault, SinkFault, NoMemory, InputTooLong, Worn}
-use Rattle.session_acts.proofs.Exchanges.{begin_more, exchanged_more, replies_more}
 
 module _ (law : DialoguesAreTrue) (size : ℕ) (lines : List TextLine) (h : History) (calls : Calls)
     (r : IsInRun calls h) where
   -- the law of a dialogue whose calls are the first ones
-  true_by : (exchanges : List Exchange) (own rest : Calls) (standing : Standing) → calls ≡ own ++ rest
-      → AreExchanged size nothing_kept exchanges own standing → AreTrue h size exchanges
-  true_by exchanges own rest standing e a =
-      let made : calls_of r.own r.steps ≡ own ++ (rest ++ r.more) =
-      r.made ∙ (ap (λ (l : Calls). l ++ r.more) e ∙ append_assoc own rest r.more) in
-      subst (λ (g : History). AreTrue g size exchanges) (sym r.is)
-      (law r.before r.after r.steps r.own size exchanges own (rest ++ r.more) standing r.sound r.run r.calm made a)
+  true_by : (own rest : Calls) (text : List ℕ) (left : List TextLine) (kept : Kept) → calls ≡ own ++ rest
+      → (d : IsDialogue size lines left own text kept) → AreTrue h size d.exchanges
+  true_by own rest text left kept e d =
+      let made : calls_of r.own r.steps ≡ calls_in sessions d.exchanges ++ (rest ++ r.more) =
+      r.made ∙ (ap (λ (l : Calls). l ++ r.more) e ∙ (append_assoc own rest r.more
+      ∙ ap (λ (l : Calls). l ++ (rest ++ r.more)) d.made)) in
+      subst (λ (g : History). AreTrue g size d.exchanges) (sym r.is)
+      (law r.before r.after r.steps r.own size d.exchanges (rest ++ r.more) kept r.sound r.run r.calm made d.exchanged)
 
   whole_true : (text : List ℕ) → IsTranscript size lines calls text → IsTrueTranscript h size lines calls text
-  whole_true text (own, standing, d, all) = record {
+  whole_true text (own, kept, d, all) = record {
     own = own;
-    left_kept = standing;
+    left_kept = kept;
     dialogue = d;
-    made = (unpins standing.cursors, sym all);
-    are_true = true_by d.exchanges own (unpins standing.cursors) standing all d.exchanged;
+    made = (unpins kept.standing.cursors, sym all);
+    are_true = true_by own (unpins kept.standing.cursors) text [] kept all d;
   }
 
   -- requests that were answered whole, by the first calls
-  begun : (left : List TextLine) (own rest : Calls) (standing : Standing) (text replies : List ℕ)
-      → calls ≡ own ++ rest → IsDialogue size lines left own replies standing → IsPrefixOf text replies
+  as_beginning : (left : List TextLine) (own rest : Calls) (kept : Kept) (text replies : List ℕ)
+      → calls ≡ own ++ rest → IsDialogue size lines left own replies kept → IsPrefixOf text replies
       → IsTrueBeginning h size lines calls text
-  begun left own rest standing text replies all d part = record {
+  as_beginning left own rest kept text replies all d part = record {
     left = left;
     own = own;
     replies = replies;
-    left_kept = standing;
+    left_kept = kept;
     dialogue = d;
     said = part;
     made = (rest, sym all);
-    are_true = true_by d.exchanges own rest standing all d.exchanged;
+    are_true = true_by own rest replies left kept all d;
   }
 
   whole_beginning_true : (text : List ℕ) → IsWholePrefix size lines calls text
       → IsTrueBeginning h size lines calls text
-  whole_beginning_true text (left, own, standing, d, all) =
-      begun left own (unpins standing.cursors) standing text text all d ([], append-nil text)
+  whole_beginning_true text (own, kept, (left, d), all) =
+      as_beginning left own (unpins kept.standing.cursors) kept text text all d ([], append-nil text)
 
-  -- a part of a reply may be the last
-  stopped : (own rest : Calls) (standing : Standing) (text : List ℕ) → calls ≡ own ++ rest
-      → Stops size lines own text standing → IsTrueBeginning h size lines calls text
-  stopped own rest standing text all stops = by stops.last where
-    d : IsDialogue size lines stops.left stops.own stops.replies stops.kept
-    d = stops.answered
+  -- the first requests were answered whole, and of the next one's reply a part was put
+  abbrev Last : Kept → Kept → List TextLine → Calls → List ℕ → Type 0
+  Last kept between left its part =
+      IsPut sessions between left its part kept ⊎ IsCut sessions between left its part kept
 
-    by : ((own ≡ stops.own) × (text ≡ stops.replies) × (standing ≡ stops.kept))
-        ⊎ ((request : Request) × (more : List TextLine) × BeginWith stops.left request more
-        × (its : Calls) × (said : Lines) × (part : List ℕ)
-        × RequestAnswer size stops.kept request its said standing
-        × (own ≡ stops.own ++ its) × IsPrefixOf part (text_of said) × (text ≡ stops.replies ++ part))
-        → IsTrueBeginning h size lines calls text
-    by (inl e) = begun stops.left stops.own rest stops.kept text stops.replies
-        (all ∙ ap (λ (l : Calls). l ++ rest) e.0) d ([], append-nil text ∙ e.1)
-    by (inr e) =
-        let x : Exchange = record { request = e.0; lines = e.4 } in
-        let part : (stops.replies ++ e.5) ++ e.8.0 ≡ stops.replies ++ text_of e.4 =
-        append_assoc stops.replies e.5 e.8.0 ∙ ap (λ (l : List ℕ). stops.replies ++ l) e.8.1 in
-        begun e.1 (stops.own ++ e.3) rest standing text (stops.replies ++ text_of e.4)
-        (all ∙ ap (λ (l : Calls). l ++ rest) e.7)
-        (record {
-          exchanges = d.exchanges ++ x ∷ [];
-          begin = begin_more lines stops.left e.1 d.exchanges x d.begin e.2;
-          exchanged = exchanged_more size nothing_kept stops.kept standing d.exchanges x stops.own e.3 d.exchanged e.6;
-          said = ap (λ (l : List ℕ). l ++ text_of e.4) d.said ∙ sym (replies_more d.exchanges x);
-        })
-        (e.8.0, ap (λ (l : List ℕ). l ++ e.8.0) e.9 ∙ part)
+  answered : (own rest : Calls) (kept : Kept) (text : List ℕ) → calls ≡ own ++ rest
+      → (s : Stops sessions (begun size) lines own text (Last kept)) → (request more : List TextLine) (said : Lines)
+      → BeginWith sessions s.left request more → sessions.Answers s.between request s.its said kept
+      → IsPrefixOf s.part (text_of said) → IsTrueBeginning h size lines calls text
+  answered own rest kept text all s request more said next answer first =
+      let d = s.answered in
+      let x : Exchange = record { request = request; calls = s.its; reply = said } in
+      as_beginning more own rest kept text (s.replies ++ text_of said) all (record {
+        exchanges = d.exchanges ++ x ∷ [];
+        begin = begin-more sessions d.exchanges x lines s.left more d.begin next;
+        exchanged = exchanged-more sessions (begun size) s.between kept d.exchanges x d.exchanged answer;
+        made = s.made
+            ∙ (ap (λ (l : Calls). l ++ s.its) d.made ∙ sym (calls-more sessions d.exchanges x));
+        said = ap (λ (l : List ℕ). l ++ text_of said) d.said ∙ sym (text-more sessions d.exchanges x);
+      }) (
+        first.0,
+        ap (λ (l : List ℕ). l ++ first.0) s.put
+            ∙ (append_assoc s.replies s.part first.0 ∙ ap (λ (l : List ℕ). s.replies ++ l) first.1),
+      )
+
+  begins_true : (own rest : Calls) (kept : Kept) (text : List ℕ) → calls ≡ own ++ rest
+      → Begins sessions (begun size) lines own kept text → IsTrueBeginning h size lines calls text
+  begins_true own rest kept text all (inl b) = as_beginning b.0 own rest kept text text all b.1 ([], append-nil text)
+  begins_true own rest kept text all (inr s) = by s.last where
+    by : Last kept s.between s.left s.its s.part → IsTrueBeginning h size lines calls text
+    by (inl q) = answered own rest kept text all s q.request q.more q.reply q.next q.answers q.first
+    by (inr q) = answered own rest kept text all s q.request q.more q.cuts.0 q.next (q.cuts.1, q.cuts.2)
+        (text_of q.cuts.0, ap (λ (l : List ℕ). l ++ text_of q.cuts.0) q.none)
 
   beginning_true : (text : List ℕ) → IsTranscriptPrefix size lines calls text → IsTrueBeginning h size lines calls text
-  beginning_true text (own, standing, stops, all) = stopped own (unpins standing.cursors) standing text all stops
+  beginning_true text (own, kept, begins, all) = begins_true own (unpins kept.standing.cursors) kept text all begins
 
   worn_true : (text : List ℕ) → WornAt size lines calls text → IsTrueBeginning h size lines calls text
-  worn_true text (InAnswer left more own its part standing after request said d next answer first made) =
-      begun left own part standing text text made d ([], append-nil text)
-  worn_true text (InClosing own part standing stops first made) = stopped own part standing text made stops
+  worn_true text (InAnswer s) = as_beginning s.left s.own s.its s.between text s.replies s.made s.answered (
+    [],
+    append-nil text ∙ (s.put ∙ (ap (λ (l : List ℕ). s.replies ++ l) s.last.none ∙ append-nil s.replies)),
+  )
+  worn_true text (InClosing own part kept begins first made) = begins_true own part kept text made begins
 
 pub services-are-true : DialoguesAreTrue → ServicesAreTrue
 services-are-true law Done size lines calls text h r is = whole_true law size lines h calls r text is

@@ -1,5 +1,5 @@
 -- Dialogues over a run: what their searches and cursors listed is the history's answer.
-use Rattle.std.proofs.Common.{◌≡◌, ◌++◌, ◌+◌, ◌*◌, ◌≤◌, ◌∙◌, ap, ap₂, append-nil, append_assoc, arith, Bool, cond, Contains, drop, nat_le, take, inl, inr, length, List, [], ◌∷◌, refl, subst, sym, ℕ}
+use Rattle.std.proofs.Common.{◌≡◌, ◌++◌, ◌+◌, ◌*◌, ◌≤◌, ◌∙◌, ap, ap₂, append_assoc, arith, Bool, cond, Contains, drop, nat_le, take, inl, inr, length, List, [], ◌∷◌, refl, subst, sym, ℕ}
 use Rattle.chem_core.specs.Molecule.{IsMolecule, Molecule}
 use Rattle.lookup.specs.Asked.{IsSameAs}
 use Rattle.lookup.specs.Fetches.{lookup_calls}
@@ -29,16 +29,20 @@ use Rattle.store_machine.specs.declared.machine.State.{State}
 use Rattle.store_machine.specs.declared.machine.Step.{Step}
 use Rattle.session_acts.specs.Acts.{Act, Advances, Asks, Closed, Does, Ended, FoundData, Lines, ListedSame, ListedSimilar, Lost, Opened, Paged, RegisteredEach, RegisteredNew, RequestAllows, RequestAnswer, Says, Searched, Searches, Turned, after_page, new_cursor, note_lines, page_end}
 use Rattle.session_acts.specs.Cursors.{Calls, Cursor, IsNoName}
-use Rattle.session_acts.specs.Dialogue.{AreExchanged, AreListed, Exchange, GivePage, IsCommand, IsShown, StaysOpen, hits_in, likes_in}
+use Rattle.dialogue.specs.Dialogue.{AreExchanged, calls_in}
+use Rattle.session_acts.specs.Dialogue.{AreListed, GivePage, IsCommand, IsShown, StaysOpen, hits_in, likes_in}
 use Rattle.session_acts.specs.Lookups.{FindsSame, LooksUp}
-use Rattle.session_acts.specs.Requests.{Request}
+use Rattle.session_acts.specs.Requests.{Request, request_of}
+use Rattle.session_acts.specs.Talking.{Exchange}
 use Rattle.session_acts.specs.Texts.{IsPatternOf}
 use Rattle.session_acts.specs.Watching.{Standing, nothing_kept}
 use Rattle.session_acts.specs.Truths.{AreAllHits, AreFoundSame, CursorsAreTrue, IsPageOf, IsUpToDate, PagesAreTrue, RegistrationsAreTrue, SamesAreTrue, SearchesAreHits, SearchesAreTrue, SimilarsAreTrue}
+use Rattle.dialogue.proofs.Exchanges.{calls-parts, exchanged-parts}
+use Rattle.session_acts.proofs.Sized.{sized}
 use Rattle.session_acts.proofs.ActPins.{dialogue_held}
 use Rattle.session_acts.proofs.Brought.{commit_behind}
 use Rattle.session_acts.proofs.Acts.{OneReading, fits, quiet_ask, quiet_note}
-use Rattle.session_acts.proofs.Endings.{SameEnd, advance_end, fault_or_end, no_page_said, says_more, search_end}
+use Rattle.session_acts.proofs.Endings.{SameEnd, advance_end, fault_or_end, listed_parts, no_page_said, says_more, search_end}
 use Rattle.session_acts.proofs.Found.{IsPrinted, NewFound, accepted_made, new_by, refused_found, same_by, same_found, similar_by, similar_found}
 use Rattle.session_acts.proofs.Followed.{Follows, follow_all, follow_new, places, turn_all}
 use Rattle.session_acts.proofs.Parting.{Laws, last_piece, pieces_so_far, some_pages, tried_so_far, whole_pages}
@@ -67,39 +71,6 @@ searches-are-hits laws s t steps own size pattern before its after lines sound r
           ended found.tried pattern found.hits found.searched.need found.searched.matched found.searched.count,
       laws.pins s t steps own found.slot found.version before ((found.pages ++ unpin ∷ []) ++ after) sound run calm made,
     )
-
--- a dialogue in two parts
-pub exchanged_parts : (size : ℕ) (standing standing' : Standing) (xs ys : List Exchange) (calls : Calls)
-    → AreExchanged size standing (xs ++ ys) calls standing'
-    → (first rest : Calls) × (between : Standing) × (calls ≡ first ++ rest)
-    × AreExchanged size standing xs first between × AreExchanged size between ys rest standing'
-exchanged_parts size standing standing' [] ys calls a = ([], calls, standing, refl, (refl, refl), a)
-exchanged_parts size standing standing' (x ∷ xs) ys calls a =
-    let r = exchanged_parts size a.2 standing' xs ys a.1 a.5 in (
-      a.0 ++ r.0,
-      r.1,
-      r.2,
-      a.4 ∙ (ap (λ (l : Calls). a.0 ++ l) r.3 ∙ sym (append_assoc a.0 r.0 r.1)),
-      (a.0, r.0, a.2, a.3, refl, r.4),
-      r.5,
-    )
-
--- what was listed up to a last page
-listed_parts : (name : List ℕ) (xs : List Exchange) (y : Exchange) (hits : List ℕ) → AreListed name (xs ++ y ∷ []) hits
-    → IsCommand y.request (command.Next name)
-    → (more : List ℕ) × AreListed name xs more × (hits ≡ more ++ hits_in y.lines)
-listed_parts name [] y hits (inl k) is =
-    ([], refl, k.2 ∙ (ap (λ (l : List ℕ). hits_in y.lines ++ l) k.3 ∙ append-nil (hits_in y.lines)))
-listed_parts name [] y hits (inr k) is = absurd (k.0 is)
-listed_parts name (x ∷ xs) y hits (inl k) is =
-    let r = listed_parts name xs y k.1 k.3 is in (
-      hits_in x.lines ++ r.0,
-      inl (k.0, r.0, refl, r.1),
-      k.2
-          ∙ (ap (λ (l : List ℕ). hits_in x.lines ++ l) r.2
-          ∙ sym (append_assoc (hits_in x.lines) r.0 (hits_in y.lines))),
-    )
-listed_parts name (x ∷ xs) y hits (inr k) is = let r = listed_parts name xs y hits k.1 is in (r.0, inr (k.0, r.1), r.2)
 
 same_hits : (h : History) (version version' tried tried' : ℕ) (pattern pattern' : PatternTerm) (hits hits' : List ℕ)
     → version ≡ version' → tried ≡ tried' → pattern ≡ pattern' → hits ≡ hits'
@@ -244,73 +215,81 @@ turned_by reading standing {act = act} {name = name} request a (FoundData id own
     absurd (fits reading standing request act (command.Next name) a is)
 
 module _ (laws : Laws) (finds : Finds) (reading : OneReading) (s t : State) (steps : List Step) (own : ℕ
-    → Bool) (size : ℕ) (exchanges : List Exchange) (calls more : Calls) (standing : Standing)
-    (sound : IsSound s) (run : IsRun s steps t) (calm : IsCalm steps) (made : calls_of own steps ≡ calls ++ more)
-    (said : AreExchanged size nothing_kept exchanges calls standing) where
+    → Bool) (size : ℕ) (exchanges : List Exchange) (more : Calls) (standing : Standing)
+    (sound : IsSound s) (run : IsRun s steps t) (calm : IsCalm steps)
+    (made : calls_of own steps ≡ calls_in (sized size) exchanges ++ more)
+    (said : AreExchanged (sized size) nothing_kept exchanges standing) where
   pub free : AreFree (calls_of own steps)
   free before pages later slot v v' e keeps = laws.slots s t steps own slot v v' before pages later run calm e keeps
 
-  -- an exchange of the dialogue, with the calls before it
+  -- the calls of exchanges in two parts, behind calls
+  pub parted : (xs ys : List Exchange) (first later : Calls)
+      → calls_of own steps ≡ first ++ (calls_in (sized size) (xs ++ ys) ++ later)
+      → calls_of own steps ≡ (first ++ calls_in (sized size) xs) ++ (calls_in (sized size) ys ++ later)
+  parted xs ys first later w =
+      let all = calls_in (sized size) xs in
+      let others = calls_in (sized size) ys in
+      w ∙ (ap (λ (l : Calls). first ++ (l ++ later)) (calls-parts (sized size) xs ys)
+      ∙ (ap (λ (l : Calls). first ++ l) (append_assoc all others later)
+      ∙ sym (append_assoc first all (others ++ later))))
+
+  -- an exchange of the dialogue, between the others
   pub record Spot (before after : List Exchange) (x : Exchange) : Type 0 where
-    pub first : Calls
-    pub its : Calls
-    pub rest : Calls
     pub here : Standing
     pub then : Standing
-    pub to : AreExchanged size nothing_kept before first here
-    pub did : RequestAnswer size here x.request its x.lines then
-    pub from : AreExchanged size then after rest standing
-    pub calls_are : calls_of own steps ≡ first ++ (its ++ (rest ++ more))
-    pub behind : calls_of own steps ≡ (first ++ its) ++ (rest ++ more)
+    pub to : AreExchanged (sized size) nothing_kept before here
+    pub did : RequestAnswer size here (request_of x.request) x.calls x.reply then
+    pub from : AreExchanged (sized size) then after standing
+    pub calls_are : calls_of own steps
+        ≡ calls_in (sized size) before ++ (x.calls ++ (calls_in (sized size) after ++ more))
+    pub behind : calls_of own steps
+        ≡ (calls_in (sized size) before ++ x.calls) ++ (calls_in (sized size) after ++ more)
 
   pub spot : (before after : List Exchange) (x : Exchange) → exchanges ≡ before ++ x ∷ after → Spot before after x
   spot before after x e =
-      let p = exchanged_parts size nothing_kept standing before (x ∷ after) calls
-      (subst (λ (l : List Exchange). AreExchanged size nothing_kept l calls standing) e said) in
-      let b = p.5 in
-      let w : calls_of own steps ≡ p.0 ++ (p.1 ++ more) =
-      made ∙ (ap (λ (l : Calls). l ++ more) p.3 ∙ append_assoc p.0 p.1 more) in
-      let n = next_calls (calls_of own steps) p.0 p.1 b.0 b.1 more w b.4 in
+      let p = exchanged-parts (sized size) nothing_kept standing before (x ∷ after)
+      (subst (λ (l : List Exchange). AreExchanged (sized size) nothing_kept l standing) e said) in
+      let b = p.2 in
+      let n = next_calls (calls_of own steps) (calls_in (sized size) before) x.calls (calls_in (sized size) after)
+      more (parted before (x ∷ after) [] more
+      (made ∙ ap (λ (l : List Exchange). calls_in (sized size) l ++ more) e)) in
       record {
-        first = p.0;
-        its = b.0;
-        rest = b.1;
-        here = p.2;
-        then = b.2;
-        to = p.4;
-        did = b.3;
-        from = b.5;
+        here = p.0;
+        then = b.0;
+        to = p.1;
+        did = b.1;
+        from = b.2;
         calls_are = n.0;
         behind = n.1;
       }
 
   -- no version that was shown before is newer
   pub no_older : (before after : List Exchange) (x : Exchange) (a : Spot before after x) (version : ℕ)
-      → IsUpToDate t.history a.first version → (v : ℕ) → IsShown before v → v ≤ version
+      → IsUpToDate t.history (calls_in (sized size) before) version → (v : ℕ) → IsShown before v → v ≤ version
   no_older before after x a version fresh v shown =
-      fresh.1 v (dialogue_shown size before [] a.first nothing_kept a.here a.to (are_apart free [] a.first _ a.calls_are) tt v shown)
+      fresh.1 v (dialogue_shown size before [] nothing_kept a.here a.to (are_apart free [] (calls_in (sized size) before) _ a.calls_are) tt v shown)
 
   pub searches_true : SearchesAreTrue t.history exchanges
   searches_true before after x text version tried count e is k =
       let a = spot before after x e in
-      let did = searched_by reading a.here x.request text version tried count a.did.allowed
-      (of_cursors (search_apart a.here x.request.more text a.did.act
-      (fits reading a.here x.request a.did.act (command.Search text) a.did.allowed is)) a.did.does) is k in
+      let did = searched_by reading a.here (request_of x.request) text version tried count a.did.allowed
+      (of_cursors (search_apart a.here (request_of x.request).more text a.did.act
+      (fits reading a.here (request_of x.request) a.did.act (command.Search text) a.did.allowed is)) a.did.does) is k in
       let found = did.2 in
-      let e = search_end found.place found.version found.tried found.hits x.lines version tried count found.lists k
+      let e = search_end found.place found.version found.tried found.hits x.reply version tried count found.lists k
       in
-      let true_all = searches-are-hits laws s t steps own size did.0 a.first a.its
-      (a.rest ++ more) x.lines sound run calm a.calls_are found e.place_is in (
+      let true_all = searches-are-hits laws s t steps own size did.0 (calls_in (sized size) before) x.calls
+      ((calls_in (sized size) after) ++ more) x.reply sound run calm a.calls_are found e.place_is in (
         record {
           within = subst (λ (v : ℕ). v ≤ head t.history) e.numbers.version_is true_all.1.0;
           pattern = did.0;
           is = did.1;
           all = same_hits t.history found.version version found.tried tried did.0 did.0 found.hits
-              (hits_in x.lines) e.numbers.version_is e.numbers.tried_is refl (sym e.listed) true_all.0;
+              (hits_in x.reply) e.numbers.version_is e.numbers.tried_is refl (sym e.listed) true_all.0;
           length_is = sym e.numbers.hits_is ∙ ap (λ (l : List ℕ). length l) (sym e.listed);
         },
         no_older before after x a version
-            (subst (λ (v : ℕ). IsUpToDate t.history a.first v) e.numbers.version_is true_all.1),
+            (subst (λ (v : ℕ). IsUpToDate t.history (calls_in (sized size) before) v) e.numbers.version_is true_all.1),
       )
 
   -- the calls of a whole listing
@@ -325,57 +304,63 @@ module _ (laws : Laws) (finds : Finds) (reading : OneReading) (s t : State) (ste
 
   -- the last page of the cursor of a name, in what follows its opening
   last_page : (between after : List Exchange) (y : Exchange) (name : List ℕ) (hits : List ℕ) (pattern : PatternTerm)
-      (opened version tried count : ℕ) (first rest : Calls) (here : Standing)
-      → calls_of own steps ≡ first ++ (rest ++ more) → AreExchanged size here (between ++ y ∷ after) rest standing
+      (opened version tried count : ℕ) (first : Calls) (here : Standing)
+      → calls_of own steps ≡ first ++ (calls_in (sized size) (between ++ y ∷ after) ++ more)
+      → AreExchanged (sized size) here (between ++ y ∷ after) standing
       → StaysOpen name between
-      → IsCommand y.request (command.Next name) → Contains y.lines (line.End version tried count)
+      → IsCommand (request_of y.request) (command.Next name) → Contains y.reply (line.End version tried count)
       → AreListed name (between ++ y ∷ []) hits
       → Follows size first here.cursors name pattern opened [] → AreAllHits t.history version pattern tried hits × (version ≡ opened)
       × (count ≡ length hits)
-  last_page between after y name hits pattern opened version tried count first rest here w a kept is k list f =
-      let p = exchanged_parts size here standing between (y ∷ after) rest a in
-      let b = p.5 in
-      let n = next_calls (calls_of own steps) first rest p.0 p.1 more w p.3 in
+  last_page between after y name hits pattern opened version tried count first here w a kept is k list f =
+      let mid = calls_in (sized size) between in
+      let later = calls_in (sized size) after in
+      let request = request_of y.request in
+      let p = exchanged-parts (sized size) here standing between (y ∷ after) a in
+      let b = p.2 in
+      let n = parted between (y ∷ after) first more w in
       let parts = listed_parts name between y hits list is in
-      let g = follow_all reading (calls_of own steps) free size name pattern opened between first p.0
-      (p.1 ++ more) here p.2 [] parts.0 n.0 p.4 kept parts.1 f in
-      let m = next_calls (calls_of own steps) (first ++ p.0) p.1 b.0 b.1 more n.1 b.4 in
-      let turn = turned_by reading p.2 y.request b.3.allowed
-      (of_cursors (next_apart p.2 y.request.more name b.3.act
-      (fits reading p.2 y.request b.3.act (command.Next name) b.3.allowed is)) b.3.does) is (inr (version, tried, count, k)) g in
+      let g = follow_all reading (calls_of own steps) free size name pattern opened between first
+      ((y.calls ++ later) ++ more) here p.0 [] parts.0 (n ∙ append_assoc first mid ((y.calls ++ later) ++ more)) p.1 kept
+      parts.1 f in
+      let m = next_calls (calls_of own steps) (first ++ mid) y.calls later more n in
+      let turn = turned_by reading p.0 request b.1.allowed
+      (of_cursors (next_apart p.0 request.more name b.1.act
+      (fits reading p.0 request b.1.act (command.Next name) b.1.allowed is)) b.1.does) is (inr (version, tried, count, k)) g in
       let same = advances_same turn.1 in
       let end = advance_end version tried count turn.1 k in
       let next = open_advances turn.1 g.open_since in (
         subst (λ (l : List ℕ). AreAllHits t.history version pattern tried l) (sym parts.2)
-            (subst (λ (q : PatternTerm). AreAllHits t.history version q tried (parts.0 ++ hits_in y.lines))
+            (subst (λ (q : PatternTerm). AreAllHits t.history version q tried (parts.0 ++ hits_in y.reply))
             (same.pattern ∙ g.pattern_is)
-            (listed (b.1 ++ more) turn.0 version tried count m.1 next.2 end.0 end.1)),
+            (listed (later ++ more) turn.0 version tried count m.1 next.2 end.0 end.1)),
         sym end.1.version_is ∙ (same.version ∙ g.version_is),
         sym end.1.hits_is ∙ (next.2.count ∙ ap (λ (l : List ℕ). length l) (sym parts.2)),
       )
 
   -- the cursor that an exchange opened
   begin : (before after : List Exchange) (x : Exchange) (name text : List ℕ) (version : ℕ) (a : Spot before after x)
-      → (o : IsOpening a.here.cursors a.its a.then.cursors name text version)
-      → (f : Follows size (a.first ++ a.its) a.then.cursors name o.pattern version []) × (f.turned ≡ 0) × (f.c.place ≡ At 0)
+      → (o : IsOpening a.here.cursors x.calls a.then.cursors name text version)
+      → (f : Follows size ((calls_in (sized size) before) ++ x.calls) a.then.cursors name o.pattern version []) × (f.turned ≡ 0) × (f.c.place ≡ At 0)
   begin before after x name text version a o =
-      subst (λ (l : List Cursor). (f : Follows size (a.first ++ a.its) l name o.pattern version []) × (f.turned ≡ 0)
+      subst (λ (l : List Cursor). (f : Follows size ((calls_in (sized size) before) ++ x.calls) l name o.pattern version []) × (f.turned ≡ 0)
       × (f.c.place ≡ At 0)) (sym o.then_are)
-      (follow_new reading (calls_of own steps) free size name o.pattern version a.first a.its (a.rest ++ more) a.here.cursors
+      (follow_new reading (calls_of own steps) free size name o.pattern version (calls_in (sized size) before) x.calls ((calls_in (sized size) after) ++ more) a.here.cursors
       o.want o.slot a.calls_are o.its_are
-      (dialogue_held none size before a.first nothing_kept a.here a.to (are_apart free [] a.first _ a.calls_are) tt) o.new o.need)
+      (dialogue_held none size before nothing_kept a.here a.to (are_apart free [] (calls_in (sized size) before) _ a.calls_are) tt) o.new o.need)
 
   pub cursors_true : CursorsAreTrue t.history exchanges
   cursors_true before between after x y name text hits version0 version tried count e start k kept next end list =
       let a = spot before (between ++ y ∷ after) x e in
-      let o = opened_by reading a.here x.request name text version0 a.did.allowed
-      (of_cursors (start_apart a.here x.request.more name text a.did.act
-      (fits reading a.here x.request a.did.act (command.Start name text) a.did.allowed start)) a.did.does) start k in
-      let r = last_page between after y name hits o.pattern version0 version tried count (a.first ++ a.its) a.rest a.then
+      let o = opened_by reading a.here (request_of x.request) name text version0 a.did.allowed
+      (of_cursors (start_apart a.here (request_of x.request).more name text a.did.act
+      (fits reading a.here (request_of x.request) a.did.act (command.Start name text) a.did.allowed start)) a.did.does) start k in
+      let r = last_page between after y name hits o.pattern version0 version tried count
+      (calls_in (sized size) before ++ x.calls) a.then
       a.behind a.from kept next end list (begin before (between ++ y ∷ after) x name text version0 a o).0 in
-      let fresh : IsUpToDate t.history a.first version0 =
-      laws.pins s t steps own o.slot version0 a.first (a.rest ++ more) sound run calm
-      (a.calls_are ∙ ap (λ (l : Calls). a.first ++ (l ++ (a.rest ++ more))) o.its_are) in (
+      let fresh : IsUpToDate t.history (calls_in (sized size) before) version0 =
+      laws.pins s t steps own o.slot version0 (calls_in (sized size) before) ((calls_in (sized size) (between ++ y ∷ after)) ++ more) sound run calm
+      (a.calls_are ∙ ap (λ (l : Calls). (calls_in (sized size) before) ++ (l ++ ((calls_in (sized size) (between ++ y ∷ after)) ++ more))) o.its_are) in (
         record {
           within = subst (λ (v : ℕ). v ≤ head t.history) (sym r.1) fresh.0;
           pattern = o.pattern;
@@ -385,7 +370,7 @@ module _ (laws : Laws) (finds : Finds) (reading : OneReading) (s t : State) (ste
         },
         r.1,
         no_older before (between ++ y ∷ after) x a version
-            (subst (λ (v : ℕ). IsUpToDate t.history a.first v) (sym r.1) fresh),
+            (subst (λ (v : ℕ). IsUpToDate t.history (calls_in (sized size) before) v) (sym r.1) fresh),
       )
 
   -- a page of the cursor of a name
@@ -435,27 +420,31 @@ module _ (laws : Laws) (finds : Finds) (reading : OneReading) (s t : State) (ste
   pub pages_true : PagesAreTrue t.history size exchanges
   pages_true before between after x y name text version k e start o kept turned next gives =
       let a = spot before (between ++ y ∷ after) x e in
-      let opening = opened_by reading a.here x.request name text version a.did.allowed
-      (of_cursors (start_apart a.here x.request.more name text a.did.act
-      (fits reading a.here x.request a.did.act (command.Start name text) a.did.allowed start)) a.did.does) start o in
+      let opening = opened_by reading a.here (request_of x.request) name text version a.did.allowed
+      (of_cursors (start_apart a.here (request_of x.request).more name text a.did.act
+      (fits reading a.here (request_of x.request) a.did.act (command.Start name text) a.did.allowed start)) a.did.does) start o in
       let f = begin before (between ++ y ∷ after) x name text version a opening in
-      let p = exchanged_parts size a.then standing between (y ∷ after) a.rest a.from in
-      let b = p.5 in
-      let first : Calls = a.first ++ a.its in
-      let n = next_calls (calls_of own steps) first a.rest p.0 p.1 more a.behind p.3 in
-      let g = turn_all reading (calls_of own steps) free size name opening.pattern version between first p.0
-      (p.1 ++ more) a.then p.2 0 k n.0 p.4 kept turned ([], f.0, f.1, 0, f.2) in
-      let m = next_calls (calls_of own steps) (first ++ p.0) p.1 b.0 b.1 more n.1 b.4 in
-      let turn = turned_by reading p.2 y.request b.3.allowed
-      (of_cursors (next_apart p.2 y.request.more name b.3.act
-      (fits reading p.2 y.request b.3.act (command.Next name) b.3.allowed next)) b.3.does) next gives g.1 in
+      let mid = calls_in (sized size) between in
+      let later = calls_in (sized size) after in
+      let request = request_of y.request in
+      let p = exchanged-parts (sized size) a.then standing between (y ∷ after) a.from in
+      let b = p.2 in
+      let first : Calls = calls_in (sized size) before ++ x.calls in
+      let n = parted between (y ∷ after) first more a.behind in
+      let g = turn_all reading (calls_of own steps) free size name opening.pattern version between first
+      ((y.calls ++ later) ++ more) a.then p.0 0 k (n ∙ append_assoc first mid ((y.calls ++ later) ++ more)) p.1 kept turned
+      ([], f.0, f.1, 0, f.2) in
+      let m = next_calls (calls_of own steps) (first ++ mid) y.calls later more n in
+      let turn = turned_by reading p.0 request b.1.allowed
+      (of_cursors (next_apart p.0 request.more name b.1.act
+      (fits reading p.0 request b.1.act (command.Next name) b.1.allowed next)) b.1.does) next gives g.1 in
       let k_is : 0 + k ≡ k = omega arith in
-      let page = page_true (first ++ p.0) b.0 (b.1 ++ more) g.1.c turn.0 y.lines g.0 g.3 g.1.turned m.1 g.4 gives turn.1
+      let page = page_true (first ++ mid) y.calls (later ++ more) g.1.c turn.0 y.reply g.0 g.3 g.1.turned m.1 g.4 gives turn.1
       g.1.open_since in
-      let r : TruePage opening.pattern version k y.lines =
-      subst (λ (n : ℕ). TruePage opening.pattern version n y.lines) (g.2 ∙ k_is)
-      (subst (λ (v : ℕ). TruePage opening.pattern v g.1.turned y.lines) g.1.version_is
-      (subst (λ (q : PatternTerm). TruePage q g.1.c.version g.1.turned y.lines) g.1.pattern_is page)) in
+      let r : TruePage opening.pattern version k y.reply =
+      subst (λ (n : ℕ). TruePage opening.pattern version n y.reply) (g.2 ∙ k_is)
+      (subst (λ (v : ℕ). TruePage opening.pattern v g.1.turned y.reply) g.1.version_is
+      (subst (λ (q : PatternTerm). TruePage q g.1.c.version g.1.turned y.reply) g.1.pattern_is page)) in
       record {
         pattern = opening.pattern;
         is = opening.reads;
@@ -500,20 +489,20 @@ module _ (laws : Laws) (finds : Finds) (reading : OneReading) (s t : State) (ste
   pub sames_true : SamesAreTrue t.history exchanges
   sames_true before after x text version tried count e is k =
       let a = spot before after x e in
-      let did = same_by reading a.here x.request text version tried count a.did.allowed
-      (of_cursors (same_apart a.here x.request.more text a.did.act
-      (fits reading a.here x.request a.did.act (command.Same text) a.did.allowed is)) a.did.does) is k in
+      let did = same_by reading a.here (request_of x.request) text version tried count a.did.allowed
+      (of_cursors (same_apart a.here (request_of x.request).more text a.did.act
+      (fits reading a.here (request_of x.request) a.did.act (command.Same text) a.did.allowed is)) a.did.does) is k in
       let r = same_found version tried count did.3 k in
       let l = r.found.lookup in
-      let all = all_same a.first a.its (a.rest ++ more) a.calls_are did.2 r.found in
+      let all = all_same (calls_in (sized size) before) x.calls ((calls_in (sized size) after) ++ more) a.calls_are did.2 r.found in
       let version_is : l.version ≡ version = sym r.found.is.version_is ∙ r.numbers.version_is in
-      let fresh = up_to_date a.first a.its (a.rest ++ more) a.calls_are l in (
+      let fresh = up_to_date (calls_in (sized size) before) x.calls ((calls_in (sized size) after) ++ more) a.calls_are l in (
         record {
           within = subst (λ (v : ℕ). v ≤ head t.history) version_is fresh.0;
           same = record {
             molecule = did.0;
             structure = did.2.structure;
-            are = subst (λ (v : ℕ). AreAnswers (IsSameAs did.0) t.history v (hits_in x.lines)) r.numbers.version_is
+            are = subst (λ (v : ℕ). AreAnswers (IsSameAs did.0) t.history v (hits_in x.reply)) r.numbers.version_is
                 (subst (λ (ids : List ℕ). AreAnswers (IsSameAs did.0) t.history r.list.version ids) (sym r.listed)
                 all.are);
           };
@@ -524,21 +513,21 @@ module _ (laws : Laws) (finds : Finds) (reading : OneReading) (s t : State) (ste
           tried_is = sym r.numbers.tried_is ∙ all.count;
           length_is = sym r.numbers.hits_is ∙ ap (λ (ids : List ℕ). length ids) (sym r.listed);
         },
-        no_older before after x a version (subst (λ (v : ℕ). IsUpToDate t.history a.first v) version_is fresh),
+        no_older before after x a version (subst (λ (v : ℕ). IsUpToDate t.history (calls_in (sized size) before) v) version_is fresh),
       )
 
   -- what a `register-new` found
   found_same : (before after : List Exchange) (x : Exchange) (a : Spot before after x) {text ids : List ℕ} {m : Molecule}
-      {print : List Bool} → IsPrinted text m print → NewFound size m print a.its ids
+      {print : List Bool} → IsPrinted text m print → NewFound size m print x.calls ids
       → AreFoundSame t.history before text ids
   found_same before after x a {text} {ids} {m} {print} p n =
       let l = n.found.lookup in
-      let rest : Calls = n.rest ++ (a.rest ++ more) in
-      let w : calls_of own steps ≡ a.first ++ (n.first ++ rest) =
-      a.calls_are ∙ (ap (λ (cs : Calls). a.first ++ (cs ++ (a.rest ++ more))) n.made
-      ∙ ap (λ (cs : Calls). a.first ++ cs) (append_assoc n.first n.rest (a.rest ++ more))) in
-      let all = all_same a.first n.first rest w p n.found in
-      let fresh = up_to_date a.first n.first rest w l in
+      let rest : Calls = n.rest ++ ((calls_in (sized size) after) ++ more) in
+      let w : calls_of own steps ≡ (calls_in (sized size) before) ++ (n.first ++ rest) =
+      a.calls_are ∙ (ap (λ (cs : Calls). (calls_in (sized size) before) ++ (cs ++ ((calls_in (sized size) after) ++ more))) n.made
+      ∙ ap (λ (cs : Calls). (calls_in (sized size) before) ++ cs) (append_assoc n.first n.rest ((calls_in (sized size) after) ++ more))) in
+      let all = all_same (calls_in (sized size) before) n.first rest w p n.found in
+      let fresh = up_to_date (calls_in (sized size) before) n.first rest w l in
       record {
         version = l.version;
         within = fresh.0;
@@ -556,28 +545,28 @@ module _ (laws : Laws) (finds : Finds) (reading : OneReading) (s t : State) (ste
   registrations_true before after x id text e is =
       let a = spot before after x e in (
         λ v k.
-            let did = new_by reading a.here x.request id text (line.Accepted v) a.did.allowed
-            (of_cursors (new_apart a.here x.request.more id text a.did.act
-            (fits reading a.here x.request a.did.act (command.RegisterNew id text) a.did.allowed is)) a.did.does) is k tt in
+            let did = new_by reading a.here (request_of x.request) id text (line.Accepted v) a.did.allowed
+            (of_cursors (new_apart a.here (request_of x.request).more id text a.did.act
+            (fits reading a.here (request_of x.request) a.did.act (command.RegisterNew id text) a.did.allowed is)) a.did.does) is k tt in
             let n = accepted_made v did.4 k in
             let l = n.found.found.lookup in
             let pages : Calls = l.pages ++ (events.Unpin l.slot, replies.Unpinned) ∷ [] in
             let commit : Calls = (events.Commit n.change, replies.Committed v) ∷ [] in
-            let rest : Calls = a.rest ++ more in
-            let its : a.its ≡ lookup_calls l.slot l.version l.pages ++ commit =
+            let rest : Calls = (calls_in (sized size) after) ++ more in
+            let its : x.calls ≡ lookup_calls l.slot l.version l.pages ++ commit =
             n.found.made ∙ ap₂ (λ (xs ys : Calls). xs ++ ys) l.made n.last in
-            let made_is : calls_of own steps ≡ (a.first ++ (events.Pin, replies.Pinned l.slot l.version) ∷ pages)
+            let made_is : calls_of own steps ≡ ((calls_in (sized size) before) ++ (events.Pin, replies.Pinned l.slot l.version) ∷ pages)
             ++ (events.Commit n.change, replies.Committed v) ∷ rest =
-            a.calls_are ∙ (ap (λ (cs : Calls). a.first ++ (cs ++ rest)) its
-            ∙ (ap (λ (cs : Calls). a.first ++ cs) (append_assoc (lookup_calls l.slot l.version l.pages) commit rest)
-            ∙ sym (append_assoc a.first (lookup_calls l.slot l.version l.pages) (commit ++ rest)))) in (
+            a.calls_are ∙ (ap (λ (cs : Calls). (calls_in (sized size) before) ++ (cs ++ rest)) its
+            ∙ (ap (λ (cs : Calls). (calls_in (sized size) before) ++ cs) (append_assoc (lookup_calls l.slot l.version l.pages) commit rest)
+            ∙ sym (append_assoc (calls_in (sized size) before) (lookup_calls l.slot l.version l.pages) (commit ++ rest)))) in (
               found_same before after x a did.3 n.found,
-              commit_behind laws.pins own s t steps a.first pages rest l.slot l.version n.change v sound run calm made_is,
+              commit_behind laws.pins own s t steps (calls_in (sized size) before) pages rest l.slot l.version n.change v sound run calm made_is,
             ),
         λ same k.
-            let did = new_by reading a.here x.request id text (line.Refused (refusals.Same same)) a.did.allowed
-            (of_cursors (new_apart a.here x.request.more id text a.did.act
-            (fits reading a.here x.request a.did.act (command.RegisterNew id text) a.did.allowed is)) a.did.does) is k tt
+            let did = new_by reading a.here (request_of x.request) id text (line.Refused (refusals.Same same)) a.did.allowed
+            (of_cursors (new_apart a.here (request_of x.request).more id text a.did.act
+            (fits reading a.here (request_of x.request) a.did.act (command.RegisterNew id text) a.did.allowed is)) a.did.does) is k tt
             in
             let n = refused_found same did.4 k in
             (n.0, found_same before after x a did.3 n.1),
@@ -586,15 +575,15 @@ module _ (laws : Laws) (finds : Finds) (reading : OneReading) (s t : State) (ste
   pub similars_true : SimilarsAreTrue t.history exchanges
   similars_true before after x p q n text version scored count e is k =
       let a = spot before after x e in
-      let did = similar_by reading a.here x.request p q n text version scored count a.did.allowed
-      (of_cursors (similar_apart a.here x.request.more p q n text a.did.act
-      (fits reading a.here x.request a.did.act (command.Similar p q n text) a.did.allowed is)) a.did.does) is k in
+      let did = similar_by reading a.here (request_of x.request) p q n text version scored count a.did.allowed
+      (of_cursors (similar_apart a.here (request_of x.request).more p q n text a.did.act
+      (fits reading a.here (request_of x.request) a.did.act (command.Similar p q n text) a.did.allowed is)) a.did.does) is k in
       let r = similar_found version scored count did.3 k in
       let l = r.found.lookup in
       let all = finds.similars s t size l.slot l.version p q n l.pages r.found.want text did.0 did.1 r.list
-      (in_run a.first a.its (a.rest ++ more) a.calls_are l) r.found.none did.2.structure did.2.print_is r.found.is in
+      (in_run (calls_in (sized size) before) x.calls ((calls_in (sized size) after) ++ more) a.calls_are l) r.found.none did.2.structure did.2.print_is r.found.is in
       let version_is : l.version ≡ version = sym r.found.is.version_is ∙ r.numbers.version_is in
-      let fresh = up_to_date a.first a.its (a.rest ++ more) a.calls_are l in (
+      let fresh = up_to_date (calls_in (sized size) before) x.calls ((calls_in (sized size) after) ++ more) a.calls_are l in (
         record {
           within = subst (λ (v : ℕ). v ≤ head t.history) version_is fresh.0;
           molecule = did.0;
@@ -604,9 +593,9 @@ module _ (laws : Laws) (finds : Finds) (reading : OneReading) (s t : State) (ste
           offers = all.offers;
           all = subst (λ (v : ℕ). AreAllOffered did.1 t.history v all.offers) r.numbers.version_is all.are;
           best = subst (λ (b : Board). IsBest all.offers b)
-              (same_board r.list.best p q n (likes_in x.lines) all.p_is all.q_is all.most_is (sym r.listed)) all.best;
+              (same_board r.list.best p q n (likes_in x.reply) all.p_is all.q_is all.most_is (sym r.listed)) all.best;
           scored_is = sym r.numbers.tried_is ∙ all.count;
           length_is = sym r.numbers.hits_is ∙ ap (λ (o : List Offer). length o) (sym r.listed);
         },
-        no_older before after x a version (subst (λ (v : ℕ). IsUpToDate t.history a.first v) version_is fresh),
+        no_older before after x a version (subst (λ (v : ℕ). IsUpToDate t.history (calls_in (sized size) before) v) version_is fresh),
       )

@@ -18,20 +18,24 @@ use Rattle.store_machine.specs.declared.machine.State.{State}
 use Rattle.store_machine.specs.declared.machine.Step.{Step}
 use Rattle.session_acts.specs.Acts.{Act, Allows, Asks, Closed, Current, Does, DoesAll, DoesWatch, FoundData, HitsLost, Lines, ListedSame, ListedSimilar, Opened, Refilled, RegisteredEach, RegisteredNew, RequestAllows, Says, Searched, TakenOut, Turned, Unwatch, WatchLost, WatchedAll, watch_lines}
 use Rattle.session_acts.specs.Cursors.{Calls, Cursor}
-use Rattle.session_acts.specs.Dialogue.{AreExchanged, Exchange, IsCommand, StaysWatched, hits_in}
+use Rattle.dialogue.specs.Dialogue.{AreExchanged, calls_in}
+use Rattle.session_acts.specs.Talking.{Exchange, begun}
+use Rattle.session_acts.specs.Dialogue.{IsCommand, StaysWatched, hits_in}
 use Rattle.session_acts.specs.Lookups.{FindsHits}
-use Rattle.session_acts.specs.Requests.{Request}
+use Rattle.session_acts.specs.Requests.{Request, request_of}
 use Rattle.session_acts.specs.Texts.{IsPatternOf}
-use Rattle.session_acts.specs.Truths.{CommitsAreTrue, DialoguesAreTrue, IsUpToDate, WatchesAreTrue, WatchingsAreTrue}
+use Rattle.session_acts.specs.Truths.{AreTrue, CommitsAreTrue, DialoguesAreTrue, IsUpToDate, WatchesAreTrue, WatchingsAreTrue}
 use Rattle.session_acts.specs.Watching.{AfterCall, AfterCalls, IsUnwatched, Standing, Watched, new_watch, nothing_kept, rebuilt_watch, watch_of}
+use Rattle.session_acts.proofs.Sized.{sized, sized_calls, sized_exchanges}
 use Rattle.session_acts.proofs.Accepted.{accepted_call, stands_behind}
 use Rattle.session_acts.proofs.Acts.{OneReading, fits, quiet_ask, quiet_note}
 use Rattle.session_acts.proofs.Brought.{commit_of}
 use Rattle.session_acts.proofs.Parting.{Laws, whole_pages}
 use Rattle.session_acts.proofs.Passing.{behind_hits, fetches_keep, fetches_search, hits_listed, one_in}
+use Rattle.dialogue.proofs.Exchanges.{exchanged-parts}
 use Rattle.session_acts.proofs.Pinned.{next_calls}
 use Rattle.session_acts.proofs.Rights.{IsKeptAs, IsRight, added_kept, added_new, added_right, none_some, noted_kept, noted_right, rebuilt_found, rebuilt_kept, rebuilt_right, same_some, without_kept, without_right}
-use Rattle.session_acts.proofs.Truth.{Finds, cursors_true, cut_calls, exchanged_parts, no_older, pages_true, registrations_true, sames_true, searches_true, similars_true, spot}
+use Rattle.session_acts.proofs.Truth.{Finds, cursors_true, cut_calls, no_older, pages_true, parted, registrations_true, sames_true, searches_true, similars_true, spot}
 
 -- the command of a request that takes a watch out
 unwatch_command : (standing : Standing) (request : Request) (own : List ℕ)
@@ -83,14 +87,14 @@ all_kept {standing = standing} {act = act} request name pattern a (inr d) stays 
     act_kept name pattern d.0 (λ own is same. stays (subst (λ (n : List ℕ). IsCommand request (command.Unwatch n)) same
     (unwatch_command standing request own (subst (RequestAllows standing request) is a)))) k
 
-dialogue_kept : (size : ℕ) (name : List ℕ) (pattern : PatternTerm) (xs : List Exchange) (its : Calls)
-    (standing standing' : Standing) → AreExchanged size standing xs its standing' → StaysWatched name xs
+dialogue_kept : (size : ℕ) (name : List ℕ) (pattern : PatternTerm) (xs : List Exchange)
+    (standing standing' : Standing) → AreExchanged (sized size) standing xs standing' → StaysWatched name xs
     → IsKeptAs name pattern standing.watches → IsKeptAs name pattern standing'.watches
-dialogue_kept size name pattern [] its standing standing' d stays k =
-    subst (λ (s : Standing). IsKeptAs name pattern s.watches) (sym d.1) k
-dialogue_kept size name pattern (x ∷ xs) its standing standing' d stays k =
-    dialogue_kept size name pattern xs d.1 d.2 standing' d.5 stays.1
-    (all_kept x.request name pattern d.3.allowed d.3.does stays.0 k)
+dialogue_kept size name pattern [] standing standing' d stays k =
+    subst (λ (s : Standing). IsKeptAs name pattern s.watches) (sym d) k
+dialogue_kept size name pattern (x ∷ xs) standing standing' d stays k =
+    dialogue_kept size name pattern xs d.0 standing' d.2 stays.1
+    (all_kept (request_of x.request) name pattern d.1.allowed d.1.does stays.0 k)
 
 abbrev read_as : Command → Result Command LineRefusal
 read_as c = Ok c
@@ -285,9 +289,10 @@ module _ (reading : OneReading) {size : ℕ} (standing standing' : Standing) (re
   hits_by a (inr d) k = by_watches a d.0 k
 
 module _ (laws : Laws) (finds : Finds) (reading : OneReading) (s t : State) (steps : List Step) (own : ℕ
-    → Bool) (size : ℕ) (exchanges : List Exchange) (calls more : Calls) (standing : Standing)
-    (sound : IsSound s) (run : IsRun s steps t) (calm : IsCalm steps) (made : calls_of own steps ≡ calls ++ more)
-    (said : AreExchanged size nothing_kept exchanges calls standing) where
+    → Bool) (size : ℕ) (exchanges : List Exchange) (more : Calls) (standing : Standing)
+    (sound : IsSound s) (run : IsRun s steps t) (calm : IsCalm steps)
+    (made : calls_of own steps ≡ calls_in (sized size) exchanges ++ more)
+    (said : AreExchanged (sized size) nothing_kept exchanges standing) where
   -- hits that were searched are those of the history
   found_are : (before its later : Calls) (pattern : PatternTerm) (version : ℕ) (hits : List ℕ)
       → calls_of own steps ≡ before ++ (its ++ later) → FindsHits size pattern its version hits
@@ -341,31 +346,31 @@ module _ (laws : Laws) (finds : Finds) (reading : OneReading) (s t : State) (ste
       calls_right its before later here.watches then.watches e d.1 r
   all_right before later e (inr d) r = act_right before later e d.0 r
 
-  dialogue_right : (xs : List Exchange) (before its later : Calls) (here then : Standing)
-      → calls_of own steps ≡ before ++ (its ++ later) → AreExchanged size here xs its then
-      → IsRight t.history here.watches → IsRight t.history then.watches
-  dialogue_right [] before its later here then e d r =
-      subst (λ (k : Standing). IsRight t.history k.watches) (sym d.1) r
-  dialogue_right (x ∷ xs) before its later here then e d r =
-      let n = next_calls (calls_of own steps) before its d.0 d.1 later e d.4 in
-      dialogue_right xs (before ++ d.0) d.1 later d.2 then n.1 d.5 (all_right before (d.1 ++ later) n.0 d.3.does r)
+  dialogue_right : (xs : List Exchange) (before later : Calls) (here then : Standing)
+      → calls_of own steps ≡ before ++ (calls_in (sized size) xs ++ later)
+      → AreExchanged (sized size) here xs then → IsRight t.history here.watches → IsRight t.history then.watches
+  dialogue_right [] before later here then e d r = subst (λ (k : Standing). IsRight t.history k.watches) (sym d) r
+  dialogue_right (x ∷ xs) before later here then e d r =
+      let more_calls = calls_in (sized size) xs in
+      let n = next_calls (calls_of own steps) before x.calls more_calls later e in
+      dialogue_right xs (before ++ x.calls) later d.0 then n.1 d.2 (all_right before (more_calls ++ later) n.0 d.1.does r)
 
   pub commits_true : CommitsAreTrue t.history size exchanges
   commits_true before after x v e k =
-      let a = spot laws finds reading s t steps own size exchanges calls more standing sound run calm made said before
+      let a = spot laws finds reading s t steps own size exchanges more standing sound run calm made said before
       after x e in
       let h = accepted_call v a.did.does k in (
         h.0,
         record {
           here = a.here;
           then = a.then;
-          calls = a.its;
+          calls = x.calls;
           answer = a.did;
           before = h.1;
           later = h.2;
           made = h.3;
         },
-        stands_behind laws.stand own s t steps a.first a.its (a.rest ++ more) v run calm a.calls_are h,
+        stands_behind laws.stand own s t steps (calls_in (sized size) before) x.calls ((calls_in (sized size) after) ++ more) v run calm a.calls_are h,
       )
 
   none_right : IsRight t.history []
@@ -373,24 +378,24 @@ module _ (laws : Laws) (finds : Finds) (reading : OneReading) (s t : State) (ste
 
   pub watchings_true : WatchingsAreTrue t.history exchanges
   watchings_true before after x name text version count e is k =
-      let a = spot laws finds reading s t steps own size exchanges calls more standing sound run calm made said before
+      let a = spot laws finds reading s t steps own size exchanges more standing sound run calm made said before
       after x e in
-      let did = watched_by reading x.request name text version count a.did.allowed a.did.does is k in
+      let did = watched_by reading (request_of x.request) name text version count a.did.allowed a.did.does is k in
       let l = did.found.lookup in
-      let fresh : IsUpToDate t.history a.first version =
-      subst (λ (v : ℕ). IsUpToDate t.history a.first v) (sym did.found.version_is)
-      (laws.pins s t steps own l.slot l.version a.first
-      ((l.pages ++ (events.Unpin l.slot, replies.Unpinned) ∷ []) ++ (a.rest ++ more)) sound run calm
-      (a.calls_are ∙ ap (λ (cs : Calls). a.first ++ (cs ++ (a.rest ++ more))) l.made)) in (
+      let fresh : IsUpToDate t.history (calls_in (sized size) before) version =
+      subst (λ (v : ℕ). IsUpToDate t.history (calls_in (sized size) before) v) (sym did.found.version_is)
+      (laws.pins s t steps own l.slot l.version (calls_in (sized size) before)
+      ((l.pages ++ (events.Unpin l.slot, replies.Unpinned) ∷ []) ++ ((calls_in (sized size) after) ++ more)) sound run calm
+      (a.calls_are ∙ ap (λ (cs : Calls). (calls_in (sized size) before) ++ (cs ++ ((calls_in (sized size) after) ++ more))) l.made)) in (
         did.hits,
         record {
           within = fresh.0;
           pattern = did.pattern;
           is = did.is;
-          are = found_are a.first a.its (a.rest ++ more) did.pattern version did.hits a.calls_are did.found;
+          are = found_are (calls_in (sized size) before) x.calls ((calls_in (sized size) after) ++ more) did.pattern version did.hits a.calls_are did.found;
           length_is = did.length_is;
         },
-        no_older laws finds reading s t steps own size exchanges calls more standing sound run calm made said before
+        no_older laws finds reading s t steps own size exchanges more standing sound run calm made said before
             after x a version fresh,
       )
 
@@ -398,34 +403,38 @@ module _ (laws : Laws) (finds : Finds) (reading : OneReading) (s t : State) (ste
   watches_true before between after x y name text first found version count rebuilt e is k stays next ends =
       let whole : exchanges ≡ (before ++ x ∷ between) ++ y ∷ after =
       e ∙ sym (append_assoc before (x ∷ between) (y ∷ after)) in
-      let b = spot laws finds reading s t steps own size exchanges calls more standing sound run calm made said
+      let b = spot laws finds reading s t steps own size exchanges more standing sound run calm made said
       (before ++ x ∷ between) after y whole in
-      let last : Calls = b.its ++ (b.rest ++ more) in
-      let r = exchanged_parts size nothing_kept b.here before (x ∷ between) b.first b.to in
-      let q = r.5 in
-      let w : calls_of own steps ≡ r.0 ++ (r.1 ++ last) =
-      b.calls_are ∙ (ap (λ (l : Calls). l ++ last) r.3 ∙ append_assoc r.0 r.1 last) in
-      let n = next_calls (calls_of own steps) r.0 r.1 q.0 q.1 last w q.4 in
-      let did = watched_by reading x.request name text first found q.3.allowed q.3.does is k in
+      let front : Calls = calls_in (sized size) (before ++ x ∷ between) in
+      let last : Calls = y.calls ++ (calls_in (sized size) after ++ more) in
+      let ahead : Calls = calls_in (sized size) before in
+      let inner : Calls = calls_in (sized size) between in
+      let r = exchanged-parts (sized size) nothing_kept b.here before (x ∷ between) b.to in
+      let q = r.2 in
+      let w : calls_of own steps ≡ ahead ++ ((x.calls ++ inner) ++ last) =
+      parted laws finds reading s t steps own size exchanges more standing sound run calm made said before (x ∷ between) []
+      last b.calls_are in
+      let n = next_calls (calls_of own steps) ahead x.calls inner last w in
+      let did = watched_by reading (request_of x.request) name text first found q.1.allowed q.1.does is k in
       let new = new_watch name did.pattern first did.hits in
-      let begun : IsKeptAs name did.pattern q.2.watches = (
+      let begun : IsKeptAs name did.pattern q.0.watches = (
         new,
         subst (λ (l : List Watched). watch_of name l ≡ Some new) (sym did.then_are)
-            (added_new name r.2.watches new did.new refl),
+            (added_new name r.0.watches new did.new refl),
         refl,
       ) in
-      let kept = dialogue_kept size name did.pattern between q.1 q.2 b.here q.5 stays begun in
-      let right = dialogue_right between (r.0 ++ q.0) q.1 last q.2 b.here n.1 q.5
-      (all_right r.0 (q.1 ++ last) n.0 q.3.does
-      (dialogue_right before [] r.0 (r.1 ++ last) nothing_kept r.2 w r.4 none_right)) in
-      let l = hits_by reading b.here b.then y.request name version count rebuilt next b.did.allowed b.did.does ends in
-      let then_right = all_right b.first (b.rest ++ more) b.calls_are b.did.does right in
-      let then_kept = all_kept y.request name did.pattern b.did.allowed b.did.does
-      (other_command reading y.request name next) kept in
+      let kept = dialogue_kept size name did.pattern between q.0 b.here q.2 stays begun in
+      let right = dialogue_right between (ahead ++ x.calls) last q.0 b.here n.1 q.2
+      (all_right ahead (inner ++ last) n.0 q.1.does
+      (dialogue_right before [] ((x.calls ++ inner) ++ last) nothing_kept r.0 w r.1 none_right)) in
+      let l = hits_by reading b.here b.then (request_of y.request) name version count rebuilt next b.did.allowed b.did.does ends in
+      let then_right = all_right front ((calls_in (sized size) after) ++ more) b.calls_are b.did.does right in
+      let then_kept = all_kept (request_of y.request) name did.pattern b.did.allowed b.did.does
+      (other_command reading (request_of y.request) name next) kept in
       let same : then_kept.0 ≡ l.x = same_some then_kept.0 l.x (sym then_kept.1 ∙ l.named) in
-      let fresh : IsUpToDate t.history b.first version =
-      laws.pins s t steps own l.slot version b.first (l.rest ++ (b.rest ++ more)) sound run calm
-      (b.calls_are ∙ ap (λ (cs : Calls). b.first ++ (cs ++ (b.rest ++ more))) l.its_are) in (
+      let fresh : IsUpToDate t.history front version =
+      laws.pins s t steps own l.slot version front (l.rest ++ ((calls_in (sized size) after) ++ more)) sound run calm
+      (b.calls_are ∙ ap (λ (cs : Calls). front ++ (cs ++ ((calls_in (sized size) after) ++ more))) l.its_are) in (
         record {
           within = fresh.0;
           pattern = did.pattern;
@@ -436,20 +445,26 @@ module _ (laws : Laws) (finds : Finds) (reading : OneReading) (s t : State) (ste
               (ap (λ (z : Watched). z.pattern) (sym same) ∙ then_kept.2) (then_right name l.x l.named)));
           length_is = l.length_is ∙ ap (λ (ids : List ℕ). length ids) (sym l.listed);
         },
-        no_older laws finds reading s t steps own size exchanges calls more standing sound run calm made said
+        no_older laws finds reading s t steps own size exchanges more standing sound run calm made said
             (before ++ x ∷ between) after y b version fresh,
       )
 
+  pub are_true : AreTrue t.history size exchanges
+  are_true = record {
+    commits = commits_true;
+    searches = searches_true laws finds reading s t steps own size exchanges more standing sound run calm made said;
+    cursors = cursors_true laws finds reading s t steps own size exchanges more standing sound run calm made said;
+    pages = pages_true laws finds reading s t steps own size exchanges more standing sound run calm made said;
+    sames = sames_true laws finds reading s t steps own size exchanges more standing sound run calm made said;
+    registrations = registrations_true laws finds reading s t steps own size exchanges more standing sound run calm made said;
+    watchings = watchings_true;
+    watches = watches_true;
+    similars = similars_true laws finds reading s t steps own size exchanges more standing sound run calm made said;
+  }
+
 pub dialogues-are-true : Laws → Finds → OneReading → DialoguesAreTrue
-dialogues-are-true laws finds reading s t steps own size exchanges calls more standing sound run calm made said = record {
-  commits = commits_true laws finds reading s t steps own size exchanges calls more standing sound run calm made said;
-  searches = searches_true laws finds reading s t steps own size exchanges calls more standing sound run calm made said;
-  cursors = cursors_true laws finds reading s t steps own size exchanges calls more standing sound run calm made said;
-  pages = pages_true laws finds reading s t steps own size exchanges calls more standing sound run calm made said;
-  sames = sames_true laws finds reading s t steps own size exchanges calls more standing sound run calm made said;
-  registrations = registrations_true laws finds reading s t steps own size exchanges calls more standing sound run calm
-      made said;
-  watchings = watchings_true laws finds reading s t steps own size exchanges calls more standing sound run calm made said;
-  watches = watches_true laws finds reading s t steps own size exchanges calls more standing sound run calm made said;
-  similars = similars_true laws finds reading s t steps own size exchanges calls more standing sound run calm made said;
-}
+dialogues-are-true laws finds reading s t steps own size exchanges more kept sound run calm made said =
+    let calls : calls_of own steps ≡ calls_in (sized size) exchanges ++ more =
+    made ∙ ap (λ (l : Calls). l ++ more) (sized_calls size exchanges) in
+    let all = sized_exchanges (begun size) kept exchanges said in
+    are_true laws finds reading s t steps own size exchanges more kept.standing sound run calm calls all

@@ -1,36 +1,13 @@
--- For callers: a session as a dialogue, each request with the lines of its reply, and the versions that replies show.
-use Rattle.std.specs.Prelude.{◌≡◌, ◌⊎◌, ◌+◌, ℕ, Contains, Ok, List, [], ◌∷◌, ◌++◌, map}
+-- For callers: the hits that the replies of a session list, and the versions that they show.
+use Rattle.std.specs.Prelude.{◌≡◌, ◌⊎◌, ◌+◌, ℕ, Contains, Ok, List, [], ◌∷◌, ◌++◌}
 use Rattle.io_edge.specs.Lines.{Whole}
 use Rattle.shell_lang.specs.Command as command
 use Rattle.shell_lang.specs.Command.{Command, IsLine}
 use Rattle.shell_lang.specs.Reply as line
-use Rattle.shell_lang.specs.Reply.{text_of}
 use Rattle.similar_find.specs.Board.{Offer}
-use Rattle.session_acts.specs.Acts.{Lines, RequestAnswer}
-use Rattle.session_acts.specs.Cursors.{Calls}
-use Rattle.session_acts.specs.Requests.{Request}
-use Rattle.session_acts.specs.Watching.{Standing}
-
--- a request, and the lines of its reply
-pub record Exchange : Type 0 where
-  pub request : Request
-  pub lines : Lines
-
--- the requests were answered one after another by these calls, each by its lines, and `standing'` is kept then
-abbrev pub AreExchanged : ℕ → Standing → List Exchange → Calls → Standing → Type 0
-AreExchanged size standing [] calls standing' = (calls ≡ []) × (standing' ≡ standing)
-AreExchanged size standing (x ∷ xs) calls standing' =
-    (own more : Calls) × (between : Standing)
-    × RequestAnswer size standing x.request own x.lines between × (calls ≡ own ++ more)
-    × AreExchanged size between xs more standing'
-
-abbrev pub requests_of : List Exchange → List Request
-requests_of exchanges = map (λ x. x.request) exchanges
-
--- the text of all replies
-abbrev pub replies_of : List Exchange → List ℕ
-replies_of [] = []
-replies_of (x ∷ xs) = text_of x.lines ++ replies_of xs
+use Rattle.session_acts.specs.Acts.{Lines}
+use Rattle.session_acts.specs.Requests.{Request, request_of}
+use Rattle.session_acts.specs.Talking.{Exchange}
 
 -- the line of the request is this command
 abbrev pub IsCommand : Request → Command → Type 0
@@ -52,18 +29,18 @@ likes_in (_ ∷ lines) = likes_in lines
 abbrev pub AreListed : List ℕ → List Exchange → List ℕ → Type 0
 AreListed name [] hits = hits ≡ []
 AreListed name (x ∷ xs) hits =
-    (IsCommand x.request (command.Next name) × (more : List ℕ) × (hits ≡ hits_in x.lines ++ more)
+    (IsCommand (request_of x.request) (command.Next name) × (more : List ℕ) × (hits ≡ hits_in x.reply ++ more)
     × AreListed name xs more)
-    ⊎ (¬ IsCommand x.request (command.Next name) × AreListed name xs hits)
+    ⊎ (¬ IsCommand (request_of x.request) (command.Next name) × AreListed name xs hits)
 
 -- k replies to `next` with the name gave a page and `more`; any other found no memory
 abbrev pub AreTurned : List ℕ → List Exchange → ℕ → Type 0
 AreTurned name [] k = k ≡ 0
 AreTurned name (x ∷ xs) k =
-    (IsCommand x.request (command.Next name) × Contains x.lines line.More × (j : ℕ) × (k ≡ j + 1)
+    (IsCommand (request_of x.request) (command.Next name) × Contains x.reply line.More × (j : ℕ) × (k ≡ j + 1)
     × AreTurned name xs j)
-    ⊎ ((IsCommand x.request (command.Next name) × (x.lines ≡ line.MemoryFault ∷ []) × AreTurned name xs k)
-    ⊎ (¬ IsCommand x.request (command.Next name) × AreTurned name xs k))
+    ⊎ ((IsCommand (request_of x.request) (command.Next name) × (x.reply ≡ line.MemoryFault ∷ []) × AreTurned name xs k)
+    ⊎ (¬ IsCommand (request_of x.request) (command.Next name) × AreTurned name xs k))
 
 -- the lines end with `more`, or with the end of a search
 abbrev pub GivePage : Lines → Type 0
@@ -73,12 +50,12 @@ GivePage lines = Contains lines line.More
 -- no request closes the cursor of the name
 abbrev pub StaysOpen : List ℕ → List Exchange → Type 0
 StaysOpen name [] = Unit {0}
-StaysOpen name (x ∷ xs) = ¬ IsCommand x.request (command.Close name) × StaysOpen name xs
+StaysOpen name (x ∷ xs) = ¬ IsCommand (request_of x.request) (command.Close name) × StaysOpen name xs
 
 -- no request removes the watch of the name
 abbrev pub StaysWatched : List ℕ → List Exchange → Type 0
 StaysWatched name [] = Unit {0}
-StaysWatched name (x ∷ xs) = ¬ IsCommand x.request (command.Unwatch name) × StaysWatched name xs
+StaysWatched name (x ∷ xs) = ¬ IsCommand (request_of x.request) (command.Unwatch name) × StaysWatched name xs
 
 -- the line shows this version
 abbrev pub ShowsVersion : line.Reply → ℕ → Type 0
@@ -100,4 +77,4 @@ IsShownIn (said ∷ lines) v = ShowsVersion said v ⊎ IsShownIn lines v
 -- a reply of the dialogue shows this version
 abbrev pub IsShown : List Exchange → ℕ → Type 0
 IsShown [] v = ⊥
-IsShown (x ∷ xs) v = IsShownIn x.lines v ⊎ IsShown xs v
+IsShown (x ∷ xs) v = IsShownIn x.reply v ⊎ IsShown xs v

@@ -6,7 +6,7 @@ pub mod Watching
 pub mod Lookups
 pub mod Acts
 pub mod Pins
+pub mod Talking
 pub mod Dialogue
-pub mod Transcript
 pub mod Served
 pub mod Truths

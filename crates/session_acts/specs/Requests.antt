@@ -30,65 +30,33 @@ abbrev pub IsLast : TextLine → Type 0
 IsLast (Whole line) = EndsMolfile line
 IsLast (TooLong size) = ⊥
 
--- the lines are those of a molfile, up to its last line, or all; and the rest
-abbrev pub BeginWithMolfile : List TextLine → List TextLine → List TextLine → Type 0
-BeginWithMolfile [] molfile rest = (molfile ≡ []) × (rest ≡ [])
-BeginWithMolfile (line ∷ lines) molfile rest =
-    (IsLast line × (molfile ≡ line ∷ []) × (rest ≡ lines))
-    ⊎ (¬ IsLast line × (more : List TextLine) × (molfile ≡ line ∷ more) × BeginWithMolfile lines more rest)
+-- a line is the last of a molfile
+abbrev pub HasLast : List TextLine → Type 0
+HasLast [] = ⊥
+HasLast (line ∷ lines) = IsLast line ⊎ HasLast lines
 
 -- the line that ends a record of an SD file
 abbrev pub ends_record : TextLine → Bool
 ends_record (Whole line) = bytes_eq line (codes "$$$$")
 ends_record (TooLong size) = false
 
--- the lines are those of this number of records, each up to and with its end, or all; and the rest
-abbrev pub BeginWithRecords : ℕ → List TextLine → List TextLine → List TextLine → Type 0
-BeginWithRecords zero lines records rest = (records ≡ []) × (rest ≡ lines)
-BeginWithRecords (suc n) [] records rest = (records ≡ []) × (rest ≡ [])
-BeginWithRecords (suc n) (line ∷ lines) records rest = (more : List TextLine) × (records ≡ line ∷ more)
-    × BeginWithRecords (if ends_record line then n else suc n) lines more rest
+-- this number of records have their ends
+abbrev pub HaveEnds : ℕ → List TextLine → Type 0
+HaveEnds zero lines = Unit {0}
+HaveEnds (suc n) [] = ⊥
+HaveEnds (suc n) (line ∷ lines) = HaveEnds (if ends_record line then n else suc n) lines
 
--- the lines are those that the line takes, and the rest
-abbrev pub BeginWithMore : TextLine → List TextLine → List TextLine → List TextLine → Type 0
-BeginWithMore line lines more rest =
-    (IsAlone line × (more ≡ []) × (rest ≡ lines))
-    ⊎ ((TakesMolfile line × BeginWithMolfile lines more rest)
-    ⊎ ((count : ℕ) × TakesRecords line count × BeginWithRecords count lines more rest))
+-- the lines are a whole request, if no fewer are: a line, with those of its molfile up to its last line, or those of
+-- its records, each up to and with its end
+abbrev pub IsWhole : List TextLine → Type 0
+IsWhole [] = ⊥
+IsWhole (line ∷ more) = IsAlone line ⊎ ((TakesMolfile line × HasLast more)
+    ⊎ ((count : ℕ) × TakesRecords line count × HaveEnds count more))
 
--- the lines are those of a request, and the rest
-abbrev pub BeginWith : List TextLine → Request → List TextLine → Type 0
-BeginWith lines request rest = (behind : List TextLine) × (lines ≡ request.line ∷ behind)
-    × BeginWithMore request.line behind request.more rest
-
--- the lines are those of the requests, and the rest
-abbrev pub BeginWithAll : List TextLine → List Request → List TextLine → Type 0
-BeginWithAll lines [] rest = lines ≡ rest
-BeginWithAll lines (request ∷ requests) rest = (more : List TextLine) × BeginWith lines request more
-    × BeginWithAll more requests rest
-
--- no line is the last of a molfile
-abbrev pub HasNoLast : List TextLine → Type 0
-HasNoLast [] = Unit {0}
-HasNoLast (line ∷ lines) = ¬ IsLast line × HasNoLast lines
-
--- the lines have fewer ends of records than this number
-abbrev pub HasNoEnd : ℕ → List TextLine → Type 0
-HasNoEnd zero lines = ⊥
-HasNoEnd (suc n) [] = Unit {0}
-HasNoEnd (suc n) (line ∷ lines) = HasNoEnd (if ends_record line then n else suc n) lines
-
--- no line, or the first lines of a request whose molfile or records are not ended
-abbrev pub IsPartOfRequest : List TextLine → Type 0
-IsPartOfRequest [] = Unit {0}
-IsPartOfRequest (line ∷ lines) = (TakesMolfile line × HasNoLast lines)
-    ⊎ ((count : ℕ) × TakesRecords line count × HasNoEnd count lines)
-
--- The requests are all the whole ones in these lines: whatever lines follow, the requests are the first, and the rest
--- of these lines is a part of a request
-abbrev pub AreAllWhole : List TextLine → List Request → Type 0
-AreAllWhole lines requests = (left : List TextLine) × IsPartOfRequest left
-    × ((more : List TextLine) → BeginWithAll (lines ++ more) requests (left ++ more))
+-- the request of these lines: the first one, with those that it takes. A request has a line
+abbrev pub request_of : List TextLine → Request
+request_of [] = record { line = Whole []; more = [] }
+request_of (line ∷ more) = record { line = line; more = more }
 
 -- a line is too long
 abbrev pub has_long : List TextLine → Bool

@@ -2,6 +2,9 @@
 -- its lookups the structures that are the same or most similar there, whatever other callers did meanwhile.
 use Rattle.std.specs.Prelude.{◌≡◌, ◌≤◌, ◌<◌, ◌↔◌, ◌*◌, ℕ, Bool, Contains, List, [], ◌∷◌, ◌++◌, drop, length, take}
 use Rattle.chem_core.specs.Molecule.{Molecule}
+use Rattle.dialogue.specs.Dialogue.{AreExchanged, calls_in}
+use Rattle.dialogue.specs.declared.end.EndStatus.{EndStatus}
+use Rattle.dialogue.specs.declared.end.EndStatus.TheVariants.{Done}
 use Rattle.io_edge.specs.Lines.{TextLine}
 use Rattle.lookup.specs.Asked.{IsSameAs}
 use Rattle.lookup.specs.Truths.{AreAllOffered}
@@ -28,13 +31,12 @@ use Rattle.store_machine.specs.declared.machine.Step.{Step}
 use Rattle.store_machine.specs.Told.{IsCommit, IsTold}
 use Rattle.session_acts.specs.Acts.{Lines, RequestAnswer, Searches}
 use Rattle.session_acts.specs.Cursors.{Calls}
-use Rattle.session_acts.specs.Dialogue.{AreExchanged, AreListed, AreTurned, Exchange, GivePage, IsCommand, IsShown, StaysOpen, StaysWatched, hits_in, likes_in}
-use Rattle.session_acts.specs.Served.{IsServed}
+use Rattle.session_acts.specs.Dialogue.{AreListed, AreTurned, GivePage, IsCommand, IsShown, StaysOpen, StaysWatched, hits_in, likes_in}
+use Rattle.session_acts.specs.Requests.{request_of}
+use Rattle.session_acts.specs.Served.{IsDialogue, IsPrefixOf, IsServed}
+use Rattle.session_acts.specs.Talking.{Exchange, Kept, begun, sessions}
 use Rattle.session_acts.specs.Texts.{IsPatternOf}
-use Rattle.session_acts.specs.Transcript.{IsDialogue, IsPrefixOf}
-use Rattle.session_acts.specs.Watching.{Standing, nothing_kept}
-use Rattle.session_acts.specs.declared.end.EndStatus.{EndStatus}
-use Rattle.session_acts.specs.declared.end.EndStatus.TheVariants.{Done}
+use Rattle.session_acts.specs.Watching.{Standing}
 
 -- These are the hits of the pattern at a version of the history, each once, ascending; and `tried` records have in
 -- their print the bits that the pattern needs
@@ -73,8 +75,8 @@ abbrev pub SearchesAreTrue : History → List Exchange → Type 0
 SearchesAreTrue h exchanges =
     (before after : List Exchange) (x : Exchange) (text : List ℕ) (version tried count : ℕ)
     → exchanges ≡ before ++ x ∷ after
-    → IsCommand x.request (command.Search text) → Contains x.lines (line.End version tried count)
-    → IsTrueList h text version tried count (hits_in x.lines) × ((v : ℕ) → IsShown before v → v ≤ version)
+    → IsCommand (request_of x.request) (command.Search text) → Contains x.reply (line.End version tried count)
+    → IsTrueList h text version tried count (hits_in x.reply) × ((v : ℕ) → IsShown before v → v ≤ version)
 
 -- Each cursor that was opened, and whose pages came to their end before it was closed, listed the hits at the version
 -- of its opening. That is no older than any version that a line before the opening shows
@@ -82,9 +84,9 @@ abbrev pub CursorsAreTrue : History → List Exchange → Type 0
 CursorsAreTrue h exchanges =
     (before between after : List Exchange) (x y : Exchange) (name text hits : List ℕ) (opened version tried count : ℕ)
     → exchanges ≡ before ++ x ∷ (between ++ y ∷ after)
-    → IsCommand x.request (command.Start name text) → Contains x.lines (line.Opened opened)
+    → IsCommand (request_of x.request) (command.Start name text) → Contains x.reply (line.Opened opened)
     → StaysOpen name between
-    → IsCommand y.request (command.Next name) → Contains y.lines (line.End version tried count)
+    → IsCommand (request_of y.request) (command.Next name) → Contains y.reply (line.End version tried count)
     → AreListed name (between ++ y ∷ []) hits
     → IsTrueList h text version tried count hits × (version ≡ opened) × ((v : ℕ) → IsShown before v → v ≤ version)
 
@@ -109,10 +111,10 @@ abbrev pub PagesAreTrue : History → ℕ → List Exchange → Type 0
 PagesAreTrue h size exchanges =
     (before between after : List Exchange) (x y : Exchange) (name text : List ℕ) (version k : ℕ)
     → exchanges ≡ before ++ x ∷ (between ++ y ∷ after)
-    → IsCommand x.request (command.Start name text) → Contains x.lines (line.Opened version)
+    → IsCommand (request_of x.request) (command.Start name text) → Contains x.reply (line.Opened version)
     → StaysOpen name between → AreTurned name between k
-    → IsCommand y.request (command.Next name) → GivePage y.lines
-    → IsTruePage h text version size k y.lines
+    → IsCommand (request_of y.request) (command.Next name) → GivePage y.reply
+    → IsTruePage h text version size k y.reply
 
 -- These are live at a version of the history with the structure of a text, each once, ascending
 pub record AreSames (h : History) (text : List ℕ) (version : ℕ) (ids : List ℕ) : Type 0 where
@@ -138,8 +140,8 @@ abbrev pub SamesAreTrue : History → List Exchange → Type 0
 SamesAreTrue h exchanges =
     (before after : List Exchange) (x : Exchange) (text : List ℕ) (version tried count : ℕ)
     → exchanges ≡ before ++ x ∷ after
-    → IsCommand x.request (command.Same text) → Contains x.lines (line.End version tried count)
-    → IsTrueSameList h text version tried count (hits_in x.lines) × ((v : ℕ) → IsShown before v → v ≤ version)
+    → IsCommand (request_of x.request) (command.Same text) → Contains x.reply (line.End version tried count)
+    → IsTrueSameList h text version tried count (hits_in x.reply) × ((v : ℕ) → IsShown before v → v ≤ version)
 
 -- These were found to have the structure of a text, at a version of the history that is no older than any that the
 -- lines before show
@@ -154,10 +156,10 @@ pub record AreFoundSame (h : History) (before : List Exchange) (text : List ℕ)
 abbrev pub RegistrationsAreTrue : History → List Exchange → Type 0
 RegistrationsAreTrue h exchanges =
     (before after : List Exchange) (x : Exchange) (id : ℕ) (text : List ℕ)
-    → exchanges ≡ before ++ x ∷ after → IsCommand x.request (command.RegisterNew id text)
-    → ((v : ℕ) → Contains x.lines (line.Accepted v)
+    → exchanges ≡ before ++ x ∷ after → IsCommand (request_of x.request) (command.RegisterNew id text)
+    → ((v : ℕ) → Contains x.reply (line.Accepted v)
     → (found : AreFoundSame h before text []) × (found.version < v))
-    × ((same : ℕ) → Contains x.lines (line.Refused (refusals.Same same))
+    × ((same : ℕ) → Contains x.reply (line.Refused (refusals.Same same))
     → (more : List ℕ) × AreFoundSame h before text (same ∷ more))
 
 -- the list for `similar` of a text, with the numbers of its end, at a version of the history. It is the best of all
@@ -180,8 +182,8 @@ abbrev pub SimilarsAreTrue : History → List Exchange → Type 0
 SimilarsAreTrue h exchanges =
     (before after : List Exchange) (x : Exchange) (p q k : ℕ) (text : List ℕ) (version scored count : ℕ)
     → exchanges ≡ before ++ x ∷ after
-    → IsCommand x.request (command.Similar p q k text) → Contains x.lines (line.Scored version scored count)
-    → IsTrueSimilarList h p q k text version scored count (likes_in x.lines)
+    → IsCommand (request_of x.request) (command.Similar p q k text) → Contains x.reply (line.Scored version scored count)
+    → IsTrueSimilarList h p q k text version scored count (likes_in x.reply)
     × ((v : ℕ) → IsShown before v → v ≤ version)
 
 -- the hits of a watched pattern, for its text: those at a version of the history, and their number
@@ -197,7 +199,7 @@ abbrev pub WatchingsAreTrue : History → List Exchange → Type 0
 WatchingsAreTrue h exchanges =
     (before after : List Exchange) (x : Exchange) (name text : List ℕ) (version count : ℕ)
     → exchanges ≡ before ++ x ∷ after
-    → IsCommand x.request (command.Watch name text) → Contains x.lines (line.Watching version count)
+    → IsCommand (request_of x.request) (command.Watch name text) → Contains x.reply (line.Watching version count)
     → (hits : List ℕ) × IsTrueWatch h text version count hits × ((v : ℕ) → IsShown before v → v ≤ version)
 
 -- Each `hits` that came to its end listed the hits of the pattern that is watched under its name, whoever committed
@@ -206,10 +208,10 @@ abbrev pub WatchesAreTrue : History → List Exchange → Type 0
 WatchesAreTrue h exchanges =
     (before between after : List Exchange) (x y : Exchange) (name text : List ℕ) (first found version count rebuilt : ℕ)
     → exchanges ≡ before ++ x ∷ (between ++ y ∷ after)
-    → IsCommand x.request (command.Watch name text) → Contains x.lines (line.Watching first found)
+    → IsCommand (request_of x.request) (command.Watch name text) → Contains x.reply (line.Watching first found)
     → StaysWatched name between
-    → IsCommand y.request (command.Hits name) → Contains y.lines (line.EndWatched version count rebuilt)
-    → IsTrueWatch h text version count (hits_in y.lines)
+    → IsCommand (request_of y.request) (command.Hits name) → Contains y.reply (line.EndWatched version count rebuilt)
+    → IsTrueWatch h text version count (hits_in y.reply)
     × ((v : ℕ) → IsShown (before ++ x ∷ between) v → v ≤ version)
 
 -- The request made a change as commit v: calls that may answer it by these lines have that commit among them
@@ -217,7 +219,7 @@ pub record IsMadeBy (size : ℕ) (x : Exchange) (c : Change) (v : ℕ) : Type 0 
   pub here : Standing
   pub then : Standing
   pub calls : Calls
-  pub answer : RequestAnswer size here x.request calls x.lines then
+  pub answer : RequestAnswer size here (request_of x.request) calls x.reply then
   pub before : Calls
   pub later : Calls
   pub made : calls ≡ before ++ (Commit c, Committed v) ∷ later
@@ -226,7 +228,7 @@ pub record IsMadeBy (size : ℕ) (x : Exchange) (c : Change) (v : ℕ) : Type 0 
 abbrev pub CommitsAreTrue : History → ℕ → List Exchange → Type 0
 CommitsAreTrue h size exchanges =
     (before after : List Exchange) (x : Exchange) (v : ℕ)
-    → exchanges ≡ before ++ x ∷ after → Contains x.lines (line.Accepted v)
+    → exchanges ≡ before ++ x ∷ after → Contains x.reply (line.Accepted v)
     → (c : Change) × IsMadeBy size x c v × IsCommit h v c
 
 -- every commit, search, cursor, lookup and watch of the dialogue, by pages of a size, is true by the history
@@ -244,17 +246,17 @@ pub record AreTrue (h : History) (size : ℕ) (exchanges : List Exchange) : Type
 -- a dialogue over a part of a run that begins at a sound state
 abbrev pub DialoguesAreTrue : Type 0
 DialoguesAreTrue =
-    (s t : State) (steps : List Step) (own : ℕ → Bool) (size : ℕ) (exchanges : List Exchange) (calls more : Calls)
-    (standing : Standing)
-    → IsSound s → IsRun s steps t → IsCalm steps → calls_of own steps ≡ calls ++ more
-    → AreExchanged size nothing_kept exchanges calls standing → AreTrue t.history size exchanges
+    (s t : State) (steps : List Step) (own : ℕ → Bool) (size : ℕ) (exchanges : List Exchange) (more : Calls)
+    (kept : Kept)
+    → IsSound s → IsRun s steps t → IsCalm steps → calls_of own steps ≡ calls_in sessions exchanges ++ more
+    → AreExchanged sessions (begun size) exchanges kept → AreTrue t.history size exchanges
 
 -- A transcript that is true by a history. The text is the replies of a true dialogue over all the lines, and the calls
 -- of the dialogue are the first of these
 pub record IsTrueTranscript (h : History) (size : ℕ) (lines : List TextLine) (calls : Calls) (text : List ℕ)
     : Type 0 where
   pub own : Calls
-  pub left_kept : Standing
+  pub left_kept : Kept
   pub dialogue : IsDialogue size lines [] own text left_kept
   pub made : IsPrefixOf own calls
   pub are_true : AreTrue h size dialogue.exchanges
@@ -266,7 +268,7 @@ pub record IsTrueBeginning (h : History) (size : ℕ) (lines : List TextLine) (c
   pub left : List TextLine
   pub own : Calls
   pub replies : List ℕ
-  pub left_kept : Standing
+  pub left_kept : Kept
   pub dialogue : IsDialogue size lines left own replies left_kept
   pub said : IsPrefixOf text replies
   pub made : IsPrefixOf own calls

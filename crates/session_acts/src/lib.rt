@@ -6,10 +6,9 @@
 //! (`drill_run`) are built on them.
 #![tactic(auto)]
 
-mod end;
 mod laws;
 mod limits;
 
-pub use end::EndStatus;
+pub use dialogue::EndStatus;
 pub use laws::{dialogues_are_true, searches_are_hits, services_are_true};
 pub use limits::{MOST_COUNTED, MOST_SD_BYTES};

@@ -13,13 +13,13 @@ use Rattle.store_machine.specs.declared.machine.Reply.TheVariants as replies
 use Rattle.session_acts.specs.Acts.{Answers, IsCutShort, Lines, Lists, MaySearch, Search, Searched}
 use Rattle.session_acts.specs.Cursors.{Calls, Cursor, IsSearched}
 use Rattle.session_acts.specs.Texts.{IsPatternOf}
-use Rattle.session_acts.specs.Transcript.{IsPrefixOf}
+use Rattle.dialogue.specs.Dialogue.{IsPrefixOf}
 use Rattle.session_run.specs.Made.{Answered, Broken, Said, Tells, Unsaid}
 use Rattle.session_run.specs.Searched.{IsLastLine, PinAnswer, Returns}
 use Rattle.session_run.specs.Walks.{Broke, Listed, Listing, Part, Whole}
 use Rattle.session_run.specs.declared.listing.Walk.{Walk}
-use Rattle.session_run.specs.declared.stop.Stop.{Stop}
-use Rattle.session_run.specs.declared.stop.Stop.TheVariants as stops
+use Rattle.dialogue.specs.declared.end.Stop.{Stop}
+use Rattle.dialogue.specs.declared.end.Stop.TheVariants as stops
 use Rattle.session_run.proofs.Listed.{text-append}
 
 lists_cut : (place : Place) (version tried : ℕ) (hits : List ℕ) (lines : Lines) → IsCutShort hits lines

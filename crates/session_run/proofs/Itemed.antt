@@ -10,8 +10,8 @@ use Rattle.store_machine.specs.declared.machine.State.{State}
 use Rattle.session_acts.specs.Acts.{Answers, Fault, FindData, FoundData, IsDataLine, MayFind, item_line}
 use Rattle.session_acts.specs.Cursors.{Cursor}
 use Rattle.session_run.specs.Made.{AnsweredBy, Tells}
-use Rattle.session_run.specs.declared.stop.Stop.{Stop}
-use Rattle.session_run.specs.declared.stop.Stop.TheVariants as stops
+use Rattle.dialogue.specs.declared.end.Stop.{Stop}
+use Rattle.dialogue.specs.declared.end.Stop.TheVariants as stops
 use Rattle.session_run.proofs.Joined.{uses-kept}
 use Rattle.session_run.proofs.Lines.{broken, noted, said}
 

@@ -1,52 +1,22 @@
 -- Calls of one caller in stretches that follow each other, and the pins that they move.
-use Rattle.std.proofs.Common.{◌≡◌, ◌≢◌, ◌⊎◌, ◌↔◌, ◌++◌, ap, Err, List, [], Ok, refl, Result, true, ℕ}
-use Rattle.par_search.specs.Fetches.{Makes}
+use Rattle.std.proofs.Common.{◌≡◌, ◌≢◌, ◌⊎◌, ◌↔◌, ap, Err, Ok, refl, Result, true, ℕ}
 use Rattle.par_search.specs.Searches.{SearchTerm, calls_at, is_worn, start_calls}
 use Rattle.par_search.specs.declared.fault.SearchFault.{SearchFault}
 use Rattle.par_search.specs.declared.fault.SearchFault.TheVariants as faults
 use Rattle.par_search.specs.declared.room.PageHits.{PageHits}
-use Rattle.par_search.proofs.Held.{not_raised-more, not_raised-same}
-use Rattle.par_search.proofs.Joined.{makes-more, makes-none}
 use Rattle.store_core.specs.Calls as core
 use Rattle.store_core.specs.Calls.{NotRaised, SameHeld, WornAs}
 use Rattle.store_core.specs.declared.service.Service as meaning
-use Rattle.store_machine.specs.Runs.{IsCalm, IsRun}
 use Rattle.store_machine.specs.Searches.{At, End, Place}
 use Rattle.store_machine.specs.declared.machine.State.{State}
-use Rattle.store_machine.specs.declared.machine.Step.{Step}
 use Rattle.lookup.proofs.Held.{none_taken}
 use Rattle.session_acts.specs.Cursors.{Calls}
-use Rattle.session_acts.proofs.Held.{Leave, leave-moves, moves-more, moves-none}
+use Rattle.session_acts.proofs.Held.{Leave, leave-moves}
+pub use Rattle.session_run.specs.TalkLaws.{uses-more, uses-none}
 use Rattle.session_run.specs.Made.{Uses}
 use Rattle.session_run.specs.Searched.{Begins}
 
 module _ {S : Type 0} {of : meaning.Ghosts S} where
-  -- no call
-  pub uses-none : ((a : S) (s : State) → of.at a s → of.stretch a a s [] s) → (a : S) → Uses of a a []
-  uses-none stays a =
-      let none : Makes of a a [] = makes-none stays a in
-      record {
-        makes = record { made = none.made };
-        pins = moves-none (of.holds a);
-        bounds = not_raised-same (of.bounds a);
-      }
-
-  -- calls that follow calls
-  pub uses-more : ((a b c : S) (s t u : State) (xs ys : List Step) → of.stretch a b s xs t → of.stretch b c t ys u
-      → of.stretch a c s (xs ++ ys) u)
-      → ((a b : S) (s t : State) (xs : List Step) → of.stretch a b s xs t → of.at b t × IsRun s xs t × IsCalm xs)
-      → ((a b : S) (s t : State) (xs : List Step) (n : ℕ) → of.stretch a b s xs t → of.owns b n ≡ of.owns a n)
-      → {a b c : S} {calls more : Calls} → Uses of a b calls → Uses of b c more → Uses of a c (calls ++ more)
-  uses-more joins lands same {a} {b} {c} {calls} {more} first next =
-      let one : Makes of a b calls = record { made = first.makes.made } in
-      let two : Makes of b c more = record { made = next.makes.made } in
-      let both : Makes of a c (calls ++ more) = makes-more joins lands same one two in
-      record {
-        makes = record { made = both.made };
-        pins = moves-more (of.holds a) (of.holds b) (of.holds c) calls more first.pins next.pins;
-        bounds = not_raised-more (of.bounds a) (of.bounds b) (of.bounds c) first.bounds next.bounds;
-      }
-
   -- calls that leave the pins
   pub uses-kept : {old new : S} (calls : Calls)
       → ((s : State) → of.at old s → core.Calls of.stretch (of.owns old) old new s calls) → Leave calls

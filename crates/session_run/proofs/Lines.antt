@@ -35,8 +35,8 @@ use Rattle.session_acts.specs.Texts.{IsPatternFault, IsPatternOf}
 use Rattle.session_run.specs.Made.{Answered, AnsweredBy, Broken, Gives, IsLineIn, Said, Tells, Unsaid, Uses, Writes, without_room}
 use Rattle.session_run.specs.Responds.{IsTextRefusal}
 use Rattle.session_run.specs.Searched.{Begins, IsFaultLine, IsPatternRefusal}
-use Rattle.session_run.specs.declared.stop.Stop.{Stop}
-use Rattle.session_run.specs.declared.stop.Stop.TheVariants as stops
+use Rattle.dialogue.specs.declared.end.Stop.{Stop}
+use Rattle.dialogue.specs.declared.end.Stop.TheVariants as stops
 use Rattle.session_run.proofs.Joined.{uses-kept}
 
 -- a line that is said

@@ -39,8 +39,8 @@ use Rattle.session_run.specs.Made.{Answered, AnsweredBy, Broken, Said, TellsAll,
 use Rattle.session_run.specs.Responds.{IsTextRefusal}
 use Rattle.session_run.specs.Searched.{IsFaultLine}
 use Rattle.session_run.specs.Standings.{both}
-use Rattle.session_run.specs.declared.stop.Stop.{Stop}
-use Rattle.session_run.specs.declared.stop.Stop.TheVariants as stops
+use Rattle.dialogue.specs.declared.end.Stop.{Stop}
+use Rattle.dialogue.specs.declared.end.Stop.TheVariants as stops
 use Rattle.session_run.proofs.Joined.{uses-kept}
 use Rattle.session_run.proofs.Lines.{broken, noted, said}
 use Rattle.session_run.proofs.Standing.{looks_still, over-append}

@@ -16,8 +16,8 @@ use Rattle.session_run.specs.Made.{Answered, Said, Tells, Unsaid}
 use Rattle.session_run.specs.Walks.{AreWritten, Counts, CursorAnswer, EndsPage, IsNoPage, IsPage, Pages, cursor_of}
 use Rattle.session_run.specs.declared.cursors.Cursor as rust
 use Rattle.session_run.specs.declared.listing.Shown.{Shown}
-use Rattle.session_run.specs.declared.stop.Stop.{Stop}
-use Rattle.session_run.specs.declared.stop.Stop.TheVariants as stops
+use Rattle.dialogue.specs.declared.end.Stop.{Stop}
+use Rattle.dialogue.specs.declared.end.Stop.TheVariants as stops
 use Rattle.session_run.proofs.Ending.{text_more}
 use Rattle.session_run.proofs.Lines.{broken, said}
 

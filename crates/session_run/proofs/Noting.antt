@@ -33,8 +33,8 @@ use Rattle.session_acts.specs.Watching.{AfterReply, AreNoted, IsListOver, IsNote
 use Rattle.session_acts.proofs.Parting.{one_call}
 use Rattle.session_run.specs.Made.{Answered, AnsweredBy, Gives, Writes}
 use Rattle.session_run.specs.Standings.{IsNotedBy, both, watched, watched_all}
-use Rattle.session_run.specs.declared.stop.Stop.{Stop}
-use Rattle.session_run.specs.declared.stop.Stop.TheVariants as stops
+use Rattle.dialogue.specs.declared.end.Stop.{Stop}
+use Rattle.dialogue.specs.declared.end.Stop.TheVariants as stops
 use Rattle.session_run.proofs.Joined.{uses-kept}
 use Rattle.session_run.proofs.Lines.{broken, in_line, said}
 use Rattle.session_run.proofs.Standing.{rests}

@@ -12,7 +12,7 @@ use Rattle.session_acts.specs.Acts.{Advances, Answers, Close, Closed, Fault, IsN
 use Rattle.session_acts.specs.Cursors.{Calls, Cursor, IsNoName, unpins}
 use Rattle.session_acts.specs.Pins.{AreHeld, HeldAfter, HeldBy, MovePins, Returns, SameOthers}
 use Rattle.session_acts.specs.Texts.{IsPatternOf}
-use Rattle.session_acts.specs.Transcript.{IsPrefixOf}
+use Rattle.dialogue.specs.Dialogue.{IsPrefixOf}
 use Rattle.session_acts.proofs.Held.{held-at, held-same, held-without, others-without, same_others, same_others-more}
 use Rattle.session_run.specs.Made.{Answered, Tells}
 use Rattle.session_run.specs.Opened.{opened}
@@ -24,8 +24,8 @@ use Rattle.session_run.specs.Walks.{AreSized, CursorAnswer, IsNamedAt, cursor_of
 use Rattle.session_run.specs.declared.cursors.Cursor as rust
 use Rattle.session_run.specs.declared.cursors.Cursors.{Cursors}
 use Rattle.session_run.specs.declared.settings.Settings.{Settings}
-use Rattle.session_run.specs.declared.stop.Stop.{Stop}
-use Rattle.session_run.specs.declared.stop.Stop.TheVariants as stops
+use Rattle.dialogue.specs.declared.end.Stop.{Stop}
+use Rattle.dialogue.specs.declared.end.Stop.TheVariants as stops
 use Rattle.session_run.proofs.Ending.{unpin}
 use Rattle.session_run.proofs.Lines.{answered_as, broken, noted, said}
 use Rattle.session_run.proofs.Named.{pushed, removed, set-split, sized-at, sized-removed, sized-set, split}

@@ -1,5 +1,5 @@
 -- What is taken and kept of the records of an SD file.
-use Rattle.std.proofs.Common.{◌≡◌, ◌∙◌, ◌≤◌, ◌<◌, ◌+◌, ◌*◌, ◌++◌, ◌⊎◌, ap, append_assoc, arith, Bool, Err, false, inl, inr, is_err, leb, length, length-append, List, [], ◌∷◌, min, None, Ok, OnErr, OnOk, Option, refl, Result, Some, subst, sym, true, ℕ}
+use Rattle.std.proofs.Common.{◌≡◌, ◌∙◌, ◌≤◌, ◌<◌, ◌+◌, ◌*◌, ◌++◌, ◌⊎◌, ap, append_assoc, arith, Err, false, inl, inr, is_err, leb, length, length-append, List, [], ◌∷◌, min, None, Ok, OnErr, OnOk, Option, refl, Result, Some, subst, sym, true, ℕ}
 use Rattle.std.proofs.Math.Nat.{min-eq_left, min-eq_right, min-le_right}
 use Rattle.std.proofs.lemmas.Bool.Decides.{leb_tells}
 use Rattle.std.specs.declared.alloc.AllocError.{AllocError}
@@ -8,7 +8,7 @@ use Rattle.std.specs.declared.vec.Vec.{Vec}
 use Rattle.io_edge.specs.Lines.{TextLine, TooLong, Whole}
 use Rattle.session_acts.specs.Records.{bytes_in, counted}
 use Rattle.session_acts.specs.Requests.{has_long, molfile_text}
-use Rattle.session_acts.specs.Transcript.{IsPrefixOf}
+use Rattle.dialogue.specs.Dialogue.{IsPrefixOf}
 use Rattle.session_acts.specs.declared.limits.TheConstants.{MOST_COUNTED}
 use Rattle.session_run.specs.Taken.{AreKept, AreTaken, IsKept, IsPart, counted_all}
 use Rattle.session_run.specs.declared.records.Kept.{Kept}

@@ -40,8 +40,8 @@ use Rattle.session_run.specs.Taken.{AreKept, AreRead, AreTaken, IsReady, Registe
 use Rattle.session_run.specs.declared.records.Kept.{Kept}
 use Rattle.session_run.specs.declared.records.Kept.TheVariants as keeps
 use Rattle.session_run.specs.declared.records.SdTexts.{SdTexts}
-use Rattle.session_run.specs.declared.stop.Stop.{Stop}
-use Rattle.session_run.specs.declared.stop.Stop.TheVariants as stops
+use Rattle.dialogue.specs.declared.end.Stop.{Stop}
+use Rattle.dialogue.specs.declared.end.Stop.TheVariants as stops
 use Rattle.session_run.proofs.Joined.{uses-more}
 use Rattle.session_run.proofs.Lines.{answered_as, may_change, text_is}
 use Rattle.session_run.proofs.Standing.{over-append}

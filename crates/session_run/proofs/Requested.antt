@@ -27,14 +27,14 @@ use Rattle.session_acts.specs.Requests.{Request, IsLong, TakesMolfile, has_long,
 use Rattle.session_acts.specs.Watching.{Standing}
 use Rattle.session_run.specs.Made.{Answered}
 use Rattle.session_run.specs.Responds.{IsLineWithout, IsTextChange, IsTextRefusal, change_by}
-use Rattle.session_run.specs.Turn.{IsNext}
+use Rattle.session_run.specs.Underway.{IsNext}
 use Rattle.session_run.specs.declared.commands.TextChange.{TextChange}
 use Rattle.session_run.specs.declared.commands.Verb.{Verb}
 use Rattle.session_run.specs.declared.commands.Verb.TheVariants as verbs
 use Rattle.session_run.specs.declared.records.Part.TheVariants as parts
 use Rattle.session_run.specs.declared.records.SdTexts.{SdTexts}
 use Rattle.session_run.specs.declared.request.Next.TheVariants as nexts
-use Rattle.session_run.specs.declared.stop.Stop.{Stop}
+use Rattle.dialogue.specs.declared.end.Stop.{Stop}
 use Rattle.session_run.proofs.Standing.{rests}
 
 -- the reply was empty before
@@ -73,7 +73,7 @@ revise_apart part count (inl e) =
 revise_apart part count (inr (rest, e)) =
     let h : 103 ≡ 118 = ap (byte_at 2) e in absurd (omega (arith, h))
 
-records_apart : (line part : List ℕ) (count : ℕ) → TakesRecords line part count → StartsMolfile line → ⊥
+pub records_apart : (line part : List ℕ) (count : ℕ) → TakesRecords line part count → StartsMolfile line → ⊥
 records_apart line part count t starts = by (subst StartsMolfile t.2 starts) where
   by : StartsMolfile (sd_line part count) → ⊥
   by (inl s) = register_apart part count s

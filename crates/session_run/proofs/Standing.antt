@@ -13,7 +13,7 @@ use Rattle.session_acts.specs.Watching.{AfterCall, AfterCalls, Standing, Watched
 use Rattle.session_acts.proofs.Passing.{advances_fetch}
 use Rattle.session_run.specs.Made.{Answered}
 use Rattle.session_run.specs.Standings.{both}
-use Rattle.session_run.specs.declared.stop.Stop.{Stop}
+use Rattle.dialogue.specs.declared.end.Stop.{Stop}
 use Rattle.session_run.proofs.Lines.{answered_as}
 
 -- Calls that follow calls

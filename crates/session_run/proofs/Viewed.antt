@@ -24,7 +24,7 @@ use Rattle.session_acts.specs.Watching.{IsUnwatched, Watched, new_watch, watch_o
 use Rattle.session_run.specs.Kept.{Fills, IsViewOf, TellsHits, Unwatches}
 use Rattle.session_run.specs.Made.{AnsweredBy, Tells}
 use Rattle.session_run.specs.Standings.{both, watched, watched_all}
-use Rattle.session_run.specs.declared.stop.Stop.{Stop}
+use Rattle.dialogue.specs.declared.end.Stop.{Stop}
 use Rattle.session_run.specs.declared.watches.View.{View}
 use Rattle.session_run.proofs.Looked.{looked_whole}
 use Rattle.session_run.proofs.Watched.{filled_seen, found_hits, listed_now, looked_known, none_seen, refilled_now, some_seen, taken_seen, unfilled, without_seen}

@@ -1,5 +1,5 @@
 -- What the acts on watches answer, by what was found and told.
-use Rattle.std.proofs.Common.{◌≡◌, ◌≢◌, ◌<◌, ◌++◌, ◌+◌, ◌∙◌, ap, Bool, cond, filter, inl, inr, length, List, [], ◌∷◌, map, None, not, Ok, Option, option_map, refl, Result, Some, subst, sym, true, false, ℕ}
+use Rattle.std.proofs.Common.{◌≡◌, ◌≢◌, ◌<◌, ◌++◌, ◌∙◌, ap, Bool, cond, filter, inl, inr, length, List, [], ◌∷◌, map, None, not, Ok, Option, option_map, refl, Result, Some, subst, sym, true, false, ℕ}
 use Rattle.lookup.specs.Fetches.{IsAnew, Known, LooksUnless}
 use Rattle.lookup.specs.Lists.{IsHitList}
 use Rattle.lookup.specs.declared.hits.HitList.{HitList}
@@ -25,7 +25,7 @@ use Rattle.session_acts.specs.Watching.{IsUnwatched, Standing, Watched, rebuilt_
 use Rattle.session_run.specs.Kept.{Adds, TellsHits, Unwatches}
 use Rattle.session_run.specs.Made.{Answered, Said, Tells, Uses}
 use Rattle.session_run.specs.Standings.{both, watched, watched_all}
-use Rattle.session_run.specs.declared.stop.Stop.{Stop}
+use Rattle.dialogue.specs.declared.end.Stop.{Stop}
 use Rattle.session_run.proofs.Lines.{said}
 use Rattle.session_run.proofs.Looked.{looked_uses, looks_up}
 use Rattle.session_run.proofs.Standing.{rests}

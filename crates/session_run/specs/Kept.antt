@@ -8,7 +8,7 @@ use Rattle.watch_list.specs.Watches.{Watch, filled}
 use Rattle.session_acts.specs.Acts.{hit_lines}
 use Rattle.session_acts.specs.Watching.{IsUnwatched, Watched, new_watch, watch_of, without}
 use Rattle.session_run.specs.Made.{Tells, TellsAll}
-use Rattle.session_run.specs.declared.stop.Stop.{Stop}
+use Rattle.dialogue.specs.declared.end.Stop.{Stop}
 use Rattle.session_run.specs.declared.watches.View.{View}
 
 -- the view of a watch

@@ -1,11 +1,12 @@
 pub mod Taken
-pub mod Turn
+pub mod Underway
 pub mod Made
 pub mod Opened
 pub mod Servable
 pub mod Walks
 pub mod Responds
-pub mod Serving
 pub mod Searched
 pub mod Standings
 pub mod Kept
+pub mod Talks
+pub mod TalkLaws

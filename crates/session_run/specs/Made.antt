@@ -10,9 +10,9 @@ use Rattle.store_machine.specs.declared.machine.Event.{Event}
 use Rattle.session_acts.specs.Acts.{IsLineOf, Lines}
 use Rattle.session_acts.specs.Cursors.{Calls, Makes}
 use Rattle.session_acts.specs.Pins.{MovePins}
-use Rattle.session_acts.specs.Transcript.{IsPrefixOf}
-use Rattle.session_run.specs.declared.stop.Stop.{Stop}
-use Rattle.session_run.specs.declared.stop.Stop.TheVariants as stops
+use Rattle.dialogue.specs.Dialogue.{IsPrefixOf}
+use Rattle.dialogue.specs.declared.end.Stop.{Stop}
+use Rattle.dialogue.specs.declared.end.Stop.TheVariants as stops
 
 -- from one value of a service to a later one these calls were made, and they alone moved pins
 pub record Uses {S : Type 0} (of : meaning.Ghosts S) (old new : S) (calls : Calls) : Type 0 where

@@ -17,10 +17,10 @@ use Rattle.store_machine.specs.declared.machine.Event.TheVariants as events
 use Rattle.store_machine.specs.declared.machine.Reply.TheVariants as replies
 use Rattle.session_acts.specs.Acts.{Lines, Lists}
 use Rattle.session_acts.specs.Cursors.{Calls, Cursor, IsSearched, unpins}
-use Rattle.session_acts.specs.Transcript.{IsPrefixOf}
+use Rattle.dialogue.specs.Dialogue.{IsPrefixOf}
 use Rattle.session_run.specs.declared.listing.Walk.{Walk}
-use Rattle.session_run.specs.declared.stop.Stop.{Stop}
-use Rattle.session_run.specs.declared.stop.Stop.TheVariants as stops
+use Rattle.dialogue.specs.declared.end.Stop.{Stop}
+use Rattle.dialogue.specs.declared.end.Stop.TheVariants as stops
 
 -- a search that has listed nothing
 pub record IsNew (walk : Walk) : Type 0 where

@@ -1,5 +1,5 @@
 -- For private clauses alone: the parts that are taken and kept of the records of an SD file.
-use Rattle.std.specs.Prelude.{◌≡◌, ◌⊎◌, ◌≤◌, ◌<◌, ℕ, suc, ◌+◌, true, false, List, [], ◌∷◌, length, min, Option, None, Some, Result, IfSome}
+use Rattle.std.specs.Prelude.{◌≡◌, ◌≤◌, ◌<◌, ℕ, suc, ◌+◌, true, false, List, [], ◌∷◌, length, min, Option, None, Some, Result, IfSome}
 use Rattle.std.specs.declared.alloc.Global.{Global}
 use Rattle.std.specs.declared.vec.Vec.{Vec}
 use Rattle.io_edge.specs.Lines.{TextLine}
@@ -9,8 +9,8 @@ use Rattle.store_core.specs.Records.{Shared}
 use Rattle.shell_lang.specs.Reply as line
 use Rattle.session_acts.specs.Acts.{Act, AnswersBy, Lines, MayRegister, Refused, Say}
 use Rattle.session_acts.specs.Cursors.{Calls}
-use Rattle.session_acts.specs.Records.{bytes_in, counted, first_record}
-use Rattle.session_acts.specs.Requests.{ends_record, has_long, molfile_text}
+use Rattle.session_acts.specs.Records.{bytes_in, counted}
+use Rattle.session_acts.specs.Requests.{has_long, molfile_text}
 use Rattle.session_acts.specs.declared.limits.TheConstants.{MOST_COUNTED, MOST_SD_BYTES}
 use Rattle.session_run.specs.declared.records.Kept.{Kept}
 use Rattle.session_run.specs.declared.records.Kept.TheVariants as keeps
@@ -58,16 +58,6 @@ pub record AreTaken (records : List (Option (List TextLine))) (texts : SdTexts) 
   pub total : texts.total ≡ counted_all records
   pub few : length texts.texts.items ≤ length records
   pub all : texts.full ≡ false → length texts.kept.items ≡ length records
-
--- no line but the last ends a record
-abbrev pub IsOne : List TextLine → Type 0
-IsOne [] = Unit {0}
-IsOne (line ∷ lines) = ((ends_record line ≡ true) × (lines ≡ [])) ⊎ ((ends_record line ≡ false) × IsOne lines)
-
--- the record that the lines are, without its end
-abbrev pub record_of : List TextLine → Option (List TextLine)
-record_of [] = None
-record_of (line ∷ lines) = Some (first_record (line ∷ lines))
 
 -- the kept part of a record and the answer of making it, ready to be registered
 abbrev pub IsReady : ℕ → ℕ → Option (List TextLine) → Option Kept → Option (Result Shared TextFault) → Type 0

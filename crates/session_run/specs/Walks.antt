@@ -20,8 +20,8 @@ use Rattle.session_run.specs.declared.listing.Progress.{Progress}
 use Rattle.session_run.specs.declared.listing.Progress.TheVariants as goes
 use Rattle.session_run.specs.declared.listing.Shown.{Shown}
 use Rattle.session_run.specs.declared.listing.Walk.{Walk}
-use Rattle.session_run.specs.declared.stop.Stop.{Stop}
-use Rattle.session_run.specs.declared.stop.Stop.TheVariants as stops
+use Rattle.dialogue.specs.declared.end.Stop.{Stop}
+use Rattle.dialogue.specs.declared.end.Stop.TheVariants as stops
 
 -- the first of the hits were written after a text
 abbrev pub ArePartlyWritten : List ℕ → List ℕ → List ℕ → Type 0

@@ -15,8 +15,8 @@ ghost use Rattle.session_run.specs.Responds.{IsTextRefusal, change_by};
 ghost use Rattle.session_run.specs.Standings.{IsNotedBy, both, watched_all};
 
 use crate::say::{say, say_given, say_long};
-use crate::stop::Stop;
 use crate::texts::record_is_sound;
+use dialogue::Stop;
 use mol_finish::{Format, TextFault, one_structure};
 use shell_lang::{Refusal, Reply};
 use std::alloc::AllocError;

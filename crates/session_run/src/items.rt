@@ -7,7 +7,7 @@ ghost use Rattle.session_acts.specs.Records.{data_of};
 ghost use Rattle.session_run.specs.Made.{AnsweredBy, Tells};
 
 use crate::say::say;
-use crate::stop::Stop;
+use dialogue::Stop;
 use mol_finish::Format;
 use sd_read::item;
 use shell_lang::{Refusal, Reply, data_text};

@@ -19,12 +19,11 @@ mod say;
 mod sd;
 mod search;
 mod settings;
-mod stop;
+mod talker;
 mod texts;
 mod watches;
 
+pub use dialogue::{EndStatus, Stop};
 pub use respond::Responder;
 pub use run::session;
-pub use session_acts::EndStatus;
 pub use settings::Settings;
-pub use stop::Stop;

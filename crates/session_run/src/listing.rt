@@ -7,7 +7,7 @@ ghost use Rattle.session_run.specs.Searched.{IsNew};
 ghost use Rattle.session_run.specs.Walks.{ArePartlyWritten, Counts, Goes, GoesOn, Listed, Pages, progress_by};
 
 use crate::matching::Matching;
-use crate::stop::Stop;
+use dialogue::Stop;
 use par_search::{Meter, Search, SearchFault};
 use shell_lang::{Reply, reply_text};
 use std::alloc::AllocError;

@@ -1,5 +1,5 @@
 //! Lookups of a session: records with the structure of a text, and those most similar to it.
-ghost use Rattle.std.specs.Prelude.{◌≡◌, ◌++◌, IfOk, List, OnErr, OnOk, map, ℕ};
+ghost use Rattle.std.specs.Prelude.{◌≡◌, ◌++◌, IfOk, List, OnErr, OnOk, map};
 ghost use Rattle.mol_finish.specs.declared.fault.Format.TheVariants.{Smiles};
 ghost use Rattle.shell_lang.specs.Command.{IsSimilarity};
 ghost use Rattle.shell_lang.specs.Reply.{text_of};
@@ -17,8 +17,8 @@ use crate::cursors::Cursors;
 use crate::listing::push_hits;
 use crate::say::{say, say_given};
 use crate::search::fault_line;
-use crate::stop::Stop;
 use crate::texts::record_is_sound;
+use dialogue::Stop;
 use lookup::{HitList, SimilarList, Similarity, find_same, find_similar};
 use mol_finish::Format;
 use shell_lang::{Refusal, Reply, reply_text};

@@ -3,7 +3,7 @@
 ghost use Rattle.std.specs.Prelude.{◌≡◌, ◌≤◌, ◌<◌, ◌++◌, ◌∷◌, [], ◌*◌, ◌+◌, length, List, min, OnErr, OnOk, Option, slice_get, Some, ℕ};
 ghost use Rattle.io_edge.specs.Lines.{TextLine, TooLong, Whole};
 ghost use Rattle.session_acts.specs.Records.{counted};
-ghost use Rattle.session_acts.specs.Transcript.{IsPrefixOf};
+ghost use Rattle.dialogue.specs.Dialogue.{IsPrefixOf};
 ghost use Rattle.session_run.specs.Taken.{AreTaken, IsKept, IsPart, IsRecordPart};
 ghost use Rattle.shell_lang.specs.declared.command.TheConstants.{MOST_SD_RECORDS};
 

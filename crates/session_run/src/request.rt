@@ -1,24 +1,21 @@
-//! Reading the next request of a source: a line, with the lines of its molfile or of its records if it takes them.
-ghost use Rattle.std.specs.Prelude.{◌≡◌, ◌≢◌, ◌<◌, ◌≤◌, ◌++◌, [], ◌∷◌, Err, IfOk, IsTrue, List, Ok, OnErr, OnOk};
-ghost use Rattle.io_edge.specs.Faults.{Rose};
-ghost use Rattle.io_edge.specs.Lines.{TextLine, done_bytes};
+//! The request under way: a line, with the lines of its molfile or of its records if it takes them.
+ghost use Rattle.std.specs.Prelude.{◌≡◌, ◌≢◌, ◌↔◌, [], IsTrue, List, ℕ};
+ghost use Rattle.dialogue.specs.Dialogue.{IsAsked};
+ghost use Rattle.io_edge.specs.Lines.{TextLine, TooLong, Whole};
 ghost use Rattle.session_acts.specs.Records.{records_in};
-ghost use Rattle.session_acts.specs.Requests.{HasNoEnd, HasNoLast, IsPartOfRequest};
+ghost use Rattle.session_acts.specs.Requests.{IsWhole, request_of};
+ghost use Rattle.session_acts.specs.Talking.{sessions};
 ghost use Rattle.session_run.specs.Taken.{AreTaken, IsPart};
-ghost use Rattle.shell_lang.specs.declared.command.TheConstants.{MOST_SD_RECORDS};
-ghost use Rattle.io_edge.specs.NextLine.{OnLine};
-ghost use Rattle.session_run.specs.Turn.{IsNextLine, ReadsOn, Takes, TakesMolfileLines, TakesPart, TakesRecord, TakesRecordLines};
-ghost use Rattle.session_run.specs.declared.request.Next.TheVariants as next;
+ghost use Rattle.session_run.specs.Underway.{AddsLine, AddsRecordLine, Begins, EndsRecord, HoldsLines, HoldsRecords, IsNext, IsOpen};
 
 use crate::records::{Part, SdTexts};
-use io_edge::{Line, LineFault, Lines, Source};
 use sd_read::is_record_end;
 use shell_lang::{LineRefusal, MolfileChange, TakenLines, ends_molfile, taken_lines};
 
-/// The kind of request that was read.
+/// The kind of the request under way.
 #[derive(Clone, Copy, Debug, PartialEq, Eq)]
 pub enum Next {
-    /// The input's end was met, and no request is left.
+    /// No line was taken.
     End,
     /// A line that is too long.
     Long,
@@ -36,154 +33,174 @@ pub enum Next {
     },
 }
 
-/// Reads the next request. The text of its molfile is then in `text`, and its records are in `records`.
-pub fn next_request<I: Source>(
-    lines: &mut Lines,
-    text: &mut Vec<u8>,
-    records: &mut SdTexts,
-    source: &mut I,
-) -> Result<Next, LineFault>
-    ensures takes { IfOk result (λ next. Takes next lines.old lines.new (I.left source.old)
-        (I.left source.new) text.new.items records.new) }
-    ensures part { OnErr result
-        (TakesPart lines.old lines.new (I.left source.old) (I.left source.new) IsPartOfRequest) }
-    ensures reads { ReadsOn (I.left source.old) (I.left source.new) (I.faults source.old)
-        (I.faults source.new) lines.old lines.new }
-    ensures progress { IfOk result (λ read. read ≢ next.End → done_bytes lines.old < done_bytes lines.new) }
-    ensures ended { result ≡ Ok next.End → IsTrue lines.new.ended }
-    ensures source_fault { result ≡ Err LineFault.Source → Rose (I.faults source.old) (I.faults source.new) }
-    ensures too_long { result ≡ Err LineFault.TooLong → lines.new.taken ≡ lines.new.limit }
-{
-    match read_line(lines, source)? {
-        Line::End => Ok(Next::End),
-        Line::Long { .. } => Ok(Next::Long),
-        Line::Text => match taken_lines(lines.text()) {
-            None => Ok(Next::Line),
+/// The state of the request under way. The text of its molfile or of its last record, and its records that are ended,
+/// are kept elsewhere.
+#[derive(Clone, Copy, Debug, PartialEq, Eq)]
+pub struct Taking {
+    pub next: Next,
+    /// The number of its records that are not ended.
+    pub left: u32,
+    /// The part that was taken of the record under way; `None` if no line of it was taken.
+    pub part: Option<Part>,
+}
+
+impl Taking {
+    /// No line was taken.
+    pub fn new() -> Taking
+        ensures { (text : List ℕ) (records : _) → HoldsLines result [] text records }
+    {
+        Taking {
+            next: Next::End,
+            left: 0,
+            part: None,
+        }
+    }
+
+    /// Adds a line. Returns true if the request is whole with it.
+    pub fn add(&mut self, line: &[u8], text: &mut Vec<u8>, records: &mut SdTexts) -> bool
+        requires { (lines : List TextLine) × HoldsLines self.old lines text.old.items records.old × ¬ IsWhole lines }
+        ensures { AddsLine self.old self.new text.old.items text.new.items records.old records.new
+            (Whole line.now) result }
+    {
+        match self.next {
+            Next::End => self.begin(line, text, records),
+            Next::Long => true,
+            Next::Line => true,
+            Next::WithMolfile { read, molfile } => {
+                let molfile = molfile.with_line(line, text);
+                self.next = Next::WithMolfile { read, molfile };
+                ends_molfile(line)
+            }
+            Next::WithRecords { .. } => {
+                if is_record_end(line) {
+                    self.end_record(text, records)
+                } else {
+                    self.add_to_record(line, text, records);
+                    false
+                }
+            }
+        }
+    }
+
+    /// Adds a line that is too long, of `size` bytes. Returns true if the request is whole with it.
+    pub fn add_long(&mut self, size: u64, text: &[u8], records: &SdTexts) -> bool
+        requires { (lines : List TextLine) × HoldsLines self.old lines text.now records.now × ¬ IsWhole lines }
+        ensures { AddsLine self.old self.new text.now text.now records.now records.now (TooLong size) result }
+    {
+        match self.next {
+            Next::End => {
+                self.next = Next::Long;
+                true
+            }
+            Next::Long => true,
+            Next::Line => true,
+            Next::WithMolfile { read, molfile } => {
+                let molfile = molfile.with_long(size, text);
+                self.next = Next::WithMolfile { read, molfile };
+                false
+            }
+            Next::WithRecords { .. } => {
+                self.part = Some(self.so_far(records).with_long(size, text));
+                false
+            }
+        }
+    }
+
+    /// The kind of the request, which gets no more lines. A record without an end is added to its records, and each
+    /// record of which no line was taken.
+    pub fn finish(self, text: &[u8], records: &mut SdTexts) -> Next
+        requires { (lines : List TextLine) × HoldsLines self lines text.now records.old }
+        ensures { (lines : List TextLine) (line : List ℕ) → HoldsLines self lines text.now records.old
+            → IsAsked sessions lines line → IsNext result (request_of lines) line text.now records.new }
+    {
+        match self.next {
+            Next::WithRecords { .. } => {
+                fill(self.left, self.part, text, records);
+                self.next
+            }
+            Next::End => self.next,
+            Next::Long => self.next,
+            Next::Line => self.next,
+            Next::WithMolfile { .. } => self.next,
+        }
+    }
+
+    // Begins a request with a line.
+    fn begin(&mut self, line: &[u8], text: &mut Vec<u8>, records: &mut SdTexts) -> bool
+        ensures { Begins self.new text.new.items records.new line.now result }
+    {
+        text.clear();
+        match taken_lines(line) {
+            None => {
+                self.next = Next::Line;
+                true
+            }
             Some(TakenLines::Molfile(read)) => {
-                let molfile = take_molfile(lines, text, source)?;
-                Ok(Next::WithMolfile { read, molfile })
+                self.next = Next::WithMolfile {
+                    read,
+                    molfile: Part::Text,
+                };
+                false
             }
             Some(TakenLines::Records { count, first }) => {
                 records.begin(first.is_ok());
-                take_records(lines, text, records, source, count)?;
-                Ok(Next::WithRecords { count, first })
-            }
-        },
-    }
-}
-
-// The next line of a source.
-fn read_line<I: Source>(lines: &mut Lines, source: &mut I) -> Result<Line, LineFault>
-    ensures line { IsNextLine lines.old lines.new (I.left source.old) (I.left source.new) result }
-    ensures reads { ReadsOn (I.left source.old) (I.left source.new) (I.faults source.old)
-        (I.faults source.new) lines.old lines.new }
-    ensures rises { OnLine result (done_bytes lines.old < done_bytes lines.new) }
-    ensures ended { result ≡ Ok Line.End → IsTrue lines.new.ended }
-    ensures source_fault { result ≡ Err LineFault.Source → Rose (I.faults source.old) (I.faults source.new) }
-    ensures too_long { result ≡ Err LineFault.TooLong → lines.new.taken ≡ lines.new.limit }
-{
-    lines.next_line(source)
-}
-
-// Takes the lines of a molfile, up to its last line or the input's end. No more bytes of its text are kept than a text
-// with a structure may have.
-fn take_molfile<I: Source>(
-    lines: &mut Lines,
-    text: &mut Vec<u8>,
-    source: &mut I,
-) -> Result<Part, LineFault>
-    requires within { lines.old.taken ≤ lines.old.limit }
-    ensures taken { IfOk result (λ part. (molfile : List TextLine) × IsPart part molfile text.new.items
-        × TakesMolfileLines lines.old lines.new (I.left source.old) (I.left source.new) molfile) }
-    ensures part { OnErr result (TakesPart lines.old lines.new (I.left source.old) (I.left source.new) HasNoLast) }
-    ensures reads { ReadsOn (I.left source.old) (I.left source.new) (I.faults source.old)
-        (I.faults source.new) lines.old lines.new }
-    ensures source_fault { result ≡ Err LineFault.Source → Rose (I.faults source.old) (I.faults source.new) }
-    ensures too_long { result ≡ Err LineFault.TooLong → lines.new.taken ≡ lines.new.limit }
-{
-    text.clear();
-    let mut part = Part::Text;
-    loop {
-        match read_line(lines, source)? {
-            Line::End => return Ok(part),
-            Line::Long { size } => part = part.with_long(size, text),
-            Line::Text => {
-                part = part.with_line(lines.text(), text);
-                if ends_molfile(lines.text()) {
-                    return Ok(part);
-                }
+                self.next = Next::WithRecords { count, first };
+                self.left = count;
+                self.part = None;
+                false
             }
         }
     }
+
+    // The part of the record under way.
+    fn so_far(&self, records: &SdTexts) -> Part
+        ensures { (tail : List TextLine) (text : List ℕ) → IsOpen self.now.part tail text → IsPart result tail text }
+    {
+        match self.part {
+            Some(part) => part,
+            None => records.begun(),
+        }
+    }
+
+    // Adds the record under way, which is ended. Returns true if it was the last one.
+    fn end_record(&mut self, text: &mut Vec<u8>, records: &mut SdTexts) -> bool
+        requires { (count : ℕ) × (more : List TextLine)
+            × HoldsRecords count more self.old.left self.old.part text.old.items records.old × (self.old.left ≢ 0) }
+        ensures next { self.new.next ≡ self.old.next }
+        ensures last { EndsRecord self.old.left self.old.part self.new.left self.new.part text.old.items text.new.items
+            records.old records.new }
+        ensures all { IsTrue result ↔ (self.new.left ≡ 0) }
+    {
+        let part = self.so_far(records);
+        records.add(Some(part), text);
+        text.clear();
+        self.left -= 1;
+        self.part = None;
+        self.left == 0
+    }
+
+    // Adds a line to the record under way.
+    fn add_to_record(&mut self, line: &[u8], text: &mut Vec<u8>, records: &SdTexts)
+        requires { (tail : List TextLine) × IsOpen self.old.part tail text.old.items }
+        ensures next { self.new.next ≡ self.old.next }
+        ensures left { self.new.left ≡ self.old.left }
+        ensures more { AddsRecordLine self.old.part self.new.part text.old.items text.new.items (Whole line.now) }
+    {
+        self.part = Some(self.so_far(records).with_line(line, text));
+    }
 }
 
-// Takes the lines of `count` records, each up to and with its end, or all that are left.
-fn take_records<I: Source>(
-    lines: &mut Lines,
-    text: &mut Vec<u8>,
-    records: &mut SdTexts,
-    source: &mut I,
-    count: u32,
-) -> Result<(), LineFault>
-    requires within { lines.old.taken ≤ lines.old.limit }
-    requires few { count ≤ MOST_SD_RECORDS }
-    requires none { AreTaken [] records.old }
-    ensures taken { OnOk result ((more : List TextLine) × AreTaken (records_in count more) records.new
-        × TakesRecordLines count lines.old lines.new (I.left source.old) (I.left source.new) more) }
-    ensures part { OnErr result
-        (TakesPart lines.old lines.new (I.left source.old) (I.left source.new) (HasNoEnd count)) }
-    ensures reads { ReadsOn (I.left source.old) (I.left source.new) (I.faults source.old)
-        (I.faults source.new) lines.old lines.new }
-    ensures source_fault { result ≡ Err LineFault.Source → Rose (I.faults source.old) (I.faults source.new) }
-    ensures too_long { result ≡ Err LineFault.TooLong → lines.new.taken ≡ lines.new.limit }
+// Adds the record under way and those of which no line was taken.
+fn fill(left: u32, part: Option<Part>, text: &[u8], records: &mut SdTexts)
+    requires { (count : ℕ) × (more : List TextLine) × HoldsRecords count more left part text.now records.old }
+    ensures { (count : ℕ) (more : List TextLine) → HoldsRecords count more left part text.now records.old
+        → AreTaken (records_in count more) records.new }
 {
-    let mut ended = false;
-    let mut left = count;
+    let mut left = left;
+    let mut part = part;
     while left > 0 {
         left -= 1;
-        if ended {
-            records.add(None, text);
-            continue;
-        }
-        let taken = take_record(lines, text, source, records.begun())?;
-        ended = taken.1;
-        records.add(taken.0, text);
-    }
-    Ok(())
-}
-
-// Takes the lines of a record, up to and with its end or to the input's end. Returns the part that was taken of it,
-// `None` if no line was left; and true if the input's end was met.
-fn take_record<I: Source>(
-    lines: &mut Lines,
-    text: &mut Vec<u8>,
-    source: &mut I,
-    begun: Part,
-) -> Result<(Option<Part>, bool), LineFault>
-    requires within { lines.old.taken ≤ lines.old.limit }
-    requires begun { IsPart begun [] [] }
-    ensures taken { IfOk result (λ r. TakesRecord lines.old lines.new (I.left source.old) (I.left source.new)
-        r.0 text.new.items r.1) }
-    ensures part { OnErr result (TakesPart lines.old lines.new (I.left source.old) (I.left source.new) (HasNoEnd 1)) }
-    ensures reads { ReadsOn (I.left source.old) (I.left source.new) (I.faults source.old)
-        (I.faults source.new) lines.old lines.new }
-    ensures source_fault { result ≡ Err LineFault.Source → Rose (I.faults source.old) (I.faults source.new) }
-    ensures too_long { result ≡ Err LineFault.TooLong → lines.new.taken ≡ lines.new.limit }
-{
-    text.clear();
-    let mut part = begun;
-    let mut some = false;
-    loop {
-        match read_line(lines, source)? {
-            Line::End => return Ok((if some { Some(part) } else { None }, true)),
-            Line::Long { size } => part = part.with_long(size, text),
-            Line::Text => {
-                if is_record_end(lines.text()) {
-                    return Ok((Some(part), false));
-                }
-                part = part.with_line(lines.text(), text);
-            }
-        }
-        some = true;
+        records.add(part, text);
+        part = None;
     }
 }

@@ -1,7 +1,7 @@
 //! The answers to requests.
 ghost use Rattle.std.specs.Prelude.{◌≡◌, [], ℕ, IfOk, List, Ok};
 ghost use Rattle.io_edge.specs.Lines.{TextLine, Whole};
-ghost use Rattle.shell_lang.specs.Command.{IsLine, Spells, StartsMolfile, TakesLines, TakesRecords, molfile_command, records_command};
+ghost use Rattle.shell_lang.specs.Command.{IsLine, Spells, StartsMolfile, TakesLines, molfile_command};
 ghost use Rattle.shell_lang.specs.CommandView.{command_of};
 ghost use Rattle.shell_lang.specs.Reply.{reply_of};
 ghost use Rattle.session_acts.specs.Acts.{Allows, RequestAnswer, Responds};
@@ -10,7 +10,7 @@ ghost use Rattle.session_run.specs.Made.{AnsweredBy};
 ghost use Rattle.session_run.specs.Opened.{opened};
 ghost use Rattle.session_run.specs.Responds.{IsFit, IsLineWithout, IsReady, IsTextChange};
 ghost use Rattle.session_run.specs.Standings.{standing_of};
-ghost use Rattle.session_run.specs.Turn.{IsNext};
+ghost use Rattle.session_run.specs.Underway.{IsNext};
 ghost use Rattle.session_run.specs.declared.request.Next.TheVariants as next;
 
 use crate::commands::{
@@ -26,8 +26,8 @@ use crate::request::Next;
 use crate::say::say;
 use crate::sd::register_sd;
 use crate::settings::Settings;
-use crate::stop::Stop;
 use crate::watches::{hits, unwatch, watch};
+use dialogue::Stop;
 use lookup::Similarity;
 use mol_finish::{Format, TextFault};
 use molfile_read::MolfileFault;

@@ -4,7 +4,7 @@ ghost use Rattle.shell_lang.specs.Reply as line;
 ghost use Rattle.shell_lang.specs.Reply.{reply_of};
 ghost use Rattle.session_run.specs.Made.{Tells, Writes, without_room};
 
-use crate::stop::Stop;
+use dialogue::Stop;
 use shell_lang::{Reply, reply_text};
 
 /// Writes a line.

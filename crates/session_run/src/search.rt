@@ -13,7 +13,7 @@ use crate::listing::Walk;
 use crate::matching::Matching;
 use crate::say::say;
 use crate::settings::Settings;
-use crate::stop::Stop;
+use dialogue::Stop;
 use par_search::{MOST_PAGES, Meter, Search, SearchFault};
 use shell_lang::{Refusal, Reply};
 use smarts_parse::{Pattern, SmartsFault};

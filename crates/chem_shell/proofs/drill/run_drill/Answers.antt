@@ -2,7 +2,7 @@ use Rattle.std.proofs.Common.{subst, sym}
 use Rattle.drill_run.specs.Drilled.{IsDrilledBy}
 use Rattle.session_run.specs.Servable.{IsServable}
 use Rattle.session_run.specs.declared.settings.Settings.{Settings}
-use Rattle.session_run.proofs.Closing.{ends-none}
+use Rattle.dialogue.proofs.Turning.{ends-none}
 use Rattle.store_core.specs.Stored.{empty}
 use Rattle.chem_shell.proofs.Drills.{drilled_none}
 use Rattle.chem_shell.proofs.drill.run_drill.Goals as goal

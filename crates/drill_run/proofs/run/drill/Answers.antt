@@ -2,7 +2,7 @@ use Rattle.std.proofs.Common.{ap, subst}
 use Rattle.io_edge.specs.Lines.{Reading}
 use Rattle.session_acts.specs.Cursors.{Calls}
 use Rattle.session_run.specs.declared.settings.Settings.{Settings}
-use Rattle.session_run.proofs.Closing.{ends-none}
+use Rattle.dialogue.proofs.Turning.{ends-none}
 use Rattle.store_core.specs.Stored.{empty}
 use Rattle.drill_run.specs.Drilled.{IsDrilledBy, Runs}
 use Rattle.drill_run.proofs.Scripts.{drilled-none, fresh}

@@ -1,4 +1,4 @@
-use Rattle.session_run.proofs.Continued.{is_next, line_reads}
+use Rattle.drill_run.proofs.Continued.{is_next, line_reads}
 use Rattle.drill_run.proofs.run.read_line.Goals as goal
 
 pub returns-clause-line : goal.returns-clause-line

@@ -1,6 +1,6 @@
 use Rattle.std.proofs.Common.{◌<◌, ◌∙◌, ap, arith, Err, refl, subst}
 use Rattle.io_edge.specs.Lines.{done_bytes}
-use Rattle.session_run.specs.Turn.{TakesNone}
+use Rattle.drill_run.specs.Reads.{TakesNone}
 use Rattle.session_run.specs.declared.settings.Settings.{Settings}
 use Rattle.drill_run.specs.Turns.{Ends, GoesOn, TakesLine, TakesNoLine, WorldTerm}
 use Rattle.drill_run.specs.Views.{kept_in}

@@ -1,6 +1,6 @@
 use Rattle.std.proofs.Common.{ap, Err, Ok}
 use Rattle.std.proofs.KnownBytes.{Appends-nil}
-use Rattle.session_run.proofs.Continued.{none_left}
+use Rattle.drill_run.proofs.Continued.{none_left}
 use Rattle.drill_run.specs.Turns.{line_by}
 use Rattle.drill_run.proofs.Turning.{ends_in, if_err, if_ok, rises_line, takes_line}
 use Rattle.drill_run.proofs.run.turn.Goals as goal
