@@ -90,7 +90,7 @@ pub fn serve_run<R: Threads + Sync, D: Disk + Drop, S: Source + Drop, K: Sink + 
     ensures status { end.new.status ≢ USAGE }
     ensures causes { HasCauses D.model disks result.0 end.new.status result.1 }
 {
-    match Store::load(alloc, disks, plan.commits) {
+    match Store::load_by(rt, plan.workers, alloc, disks, plan.commits) {
         Ok(store) => (serve_loaded(rt, alloc, plan, store, end), 0),
         Err((fault, disks)) => {
             let (status, place) = refusal(fault);

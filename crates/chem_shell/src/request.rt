@@ -29,7 +29,7 @@ pub struct Plan<'w> {
     pub scripts: Vec<&'w str>,
     /// The number of ends that are served.
     pub ends: u32,
-    /// Threads for matching, 1 to 16.
+    /// Threads for searches and opening, 1 to 16.
     pub workers: u32,
     /// Records in a page, 1 to 256.
     pub page: u32,

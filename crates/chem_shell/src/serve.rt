@@ -42,7 +42,7 @@ pub fn serve_many<
     requires few { length ends.items ≤ MOST_ENDS }
     ensures { IsDone D.model S.left S.faults K.written K.faults plan.now disks ends.items result }
 {
-    match Store::load(alloc, disks, plan.commits) {
+    match Store::load_by(rt, plan.workers, alloc, disks, plan.commits) {
         Ok(store) => serve_loaded(rt, alloc, plan, store, ends),
         Err((fault, disks)) => {
             let (status, place) = refusal(fault);

@@ -41,7 +41,7 @@ commands
                    its second disk, and `reopen N` after a crash
 
 options
-  --workers N  threads for matching, 1 to 16; 1 if left out
+  --workers N  threads for searches and opening, 1 to 16; 1 if left out
   --page N     records in a page, 1 to 256; 256 if left out
   --commits N  of mem, run, serve and drill: the most commits of the store, 1 to 16777215; 16777215 if left out
 

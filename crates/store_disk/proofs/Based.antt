@@ -1,5 +1,5 @@
 -- The entries of a base, put into memory one after the other.
-use Rattle.std.proofs.Common.{◌≡◌, ◌+◌, ◌++◌, ◌<◌, ◌≤◌, ◌∙◌, ap, append_assoc, arith, drop, get_or, length, List, [], ◌∷◌, map, subst, sym, take, ℕ}
+use Rattle.std.proofs.Common.{All, ◌≡◌, ◌+◌, ◌++◌, ◌<◌, ◌≤◌, ◌∙◌, ap, append_assoc, arith, drop, get_or, length, List, [], ◌∷◌, map, subst, sym, take, ℕ}
 use Rattle.std.proofs.Math.Seq.{take_all}
 use Rattle.std.proofs.lemmas.Grind.{take_at_read}
 use Rattle.std.proofs.lemmas.List.{map-append, take-append-drop}
@@ -57,6 +57,17 @@ pub above-first : (version last : ℕ) (before : List Entry) (e : Entry) (more :
     → AreEntries version last (before ++ e ∷ more) → IsId e.id
 above-first version last before e more are =
     (omega (arith, above-last version last before e more are), (follows-at version last before e more are).in_range)
+
+ids : (version last : ℕ) (found : List (ℕ × BaseEntry)) → AreEntries version last (entries_of found)
+    → AllByRecursion (λ (e : ℕ × BaseEntry). IsId e.1.id) found
+ids version last [] are = tt
+ids version last (one ∷ found) are =
+    ((omega (arith, are.0.above), are.0.in_range), ids version one.1.id found are.2)
+
+-- each identifier is in range
+pub all-ids : (version : ℕ) (found : List (ℕ × BaseEntry)) → AreEntries version 0 (entries_of found)
+    → All (λ (e : ℕ × BaseEntry). IsId e.1.id) found
+all-ids version found are = All-from_recursion (λ (e : ℕ × BaseEntry). IsId e.1.id) found (ids version 0 found are)
 
 abbrev one-entry : ℕ × BaseEntry → Entry
 one-entry one = entry_of one.1

@@ -1,3 +1,4 @@
+mod Answered
 mod Based
 mod Bounds
 mod Commits
@@ -22,6 +23,7 @@ mod OneWay
 mod Opened
 mod Owners
 mod Payloads
+mod Pieces
 mod Pruned
 mod Reading
 mod Ready

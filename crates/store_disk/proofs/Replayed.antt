@@ -1,6 +1,6 @@
 -- The commits of a journal behind a base, made again one after the other.
 use Rattle.std.proofs.Common.{◌≡◌, ◌++◌, ◌∙◌, ap, append_assoc, arith, inl, inr, List, [], ◌∷◌, map, None, Option, refl, Some, subst, sym, ℕ}
-use Rattle.std.proofs.lemmas.List.{map-append}
+use Rattle.std.proofs.lemmas.List.{append-nil, map-append}
 use Rattle.commit_log.specs.Change.{Change as Logged, change_of}
 use Rattle.commit_log.specs.Entry.{Entry}
 use Rattle.commit_log.specs.Base.{entries_of}
@@ -18,7 +18,7 @@ use Rattle.store_machine.specs.declared.machine.History.{History}
 use Rattle.store_machine.specs.declared.machine.State.{State}
 use Rattle.store_disk.specs.Loads.{MayFollow}
 use Rattle.store_disk.specs.Payloads.{told, told_entry, told_history}
-use Rattle.store_disk.specs.Replays.{HasBased, HasCome, IsReplayed, Made, Stops}
+use Rattle.store_disk.specs.Replays.{HasBased, HasCome, HasTaken, IsReplayed, Made, Stops}
 use Rattle.store_disk.proofs.Lifts.{serving-alone}
 
 pub made-none : (memory : Memory) (version : ℕ) (entries : List Entry) → HasBased memory version entries
@@ -89,13 +89,12 @@ module _ (version : ℕ) (entries : List Entry) where
       record { state = o.0; serving = o.1; history = o.2 ∙ m.history; opened = o.3 }
 
   -- where it stopped before
-  stops-more : (log : List Commit) (c : Commit) (at : ℕ) → Stops version entries log at
-      → Stops version entries (log ++ c ∷ []) at
-  stops-more log c at s = record {
+  stops-more : (log cs : List Commit) (at : ℕ) → Stops version entries log at → Stops version entries (log ++ cs) at
+  stops-more log cs at s = record {
     before = s.before;
     commit = s.commit;
-    more = s.more ++ c ∷ [];
-    is = ap (λ (l : List Commit). l ++ c ∷ []) s.is ∙ append_assoc s.before (s.commit ∷ s.more) (c ∷ []);
+    more = s.more ++ cs;
+    is = ap (λ (l : List Commit). l ++ cs) s.is ∙ append_assoc s.before (s.commit ∷ s.more) cs;
     place = s.place;
     history = s.history;
     few = s.few;
@@ -119,9 +118,25 @@ module _ (version : ℕ) (base : List (ℕ × BaseEntry)) (log : List Commit) (c
   come-stops memory at m d =
       stops version (entries_of base) (log ++ c ∷ []) log c [] memory at refl d.0 m d.1
 
-  -- an earlier one, or an entry, could not be made
-  pub come-stopped : (memory : Memory) (o : Option ℕ) (x : ℕ) → o ≡ Some x → HasCome memory o version base log
-      → HasCome memory o version base (log ++ c ∷ [])
-  come-stopped memory None x is come = cc is
-  come-stopped memory (Some at) x is (inl lacks) = inl lacks
-  come-stopped memory (Some at) x is (inr s) = inr (stops-more version (entries_of base) log c at s)
+module _ (memory : Memory) (stopped : Option ℕ) (version : ℕ) (base : List (ℕ × BaseEntry)) (log : List Commit) where
+  -- one before them, or an entry, could not be made
+  pub come-stopped : (cs : List Commit) (x : ℕ) → stopped ≡ Some x → HasCome memory stopped version base log
+      → HasCome memory stopped version base (log ++ cs)
+  come-stopped cs x is come = go stopped is come
+    where
+      go : (o : Option ℕ) → o ≡ Some x → HasCome memory o version base log → HasCome memory o version base (log ++ cs)
+      go None e c = cc e
+      go (Some at) e (inl lacks) = inl lacks
+      go (Some at) e (inr s) = inr (stops-more version (entries_of base) log cs at s)
+
+  -- one more waits
+  pub taken-more : (waiting : List Commit) (c : Commit) → HasTaken memory stopped waiting version base log
+      → HasTaken memory stopped (waiting ++ c ∷ []) version base (log ++ c ∷ [])
+  taken-more waiting c t =
+      (t.0, ap (λ (l : List Commit). l ++ c ∷ []) t.1 ∙ append_assoc t.0 waiting (c ∷ []), t.2)
+
+  -- none waits
+  pub taken-all : (waiting : List Commit) → waiting ≡ [] → HasCome memory stopped version base log
+      → HasTaken memory stopped waiting version base log
+  taken-all waiting none come =
+      (log, sym (ap (λ (l : List Commit). log ++ l) none ∙ append-nil log), come)

@@ -24,6 +24,10 @@ pub on-ok : {T E : Type 0} {P Q : Type 0} (r : Result T E) → (P → Q) → OnO
 on-ok (Ok x) f p = f p
 on-ok (Err e) f p = tt
 
+pub on-both : {T E : Type 0} (P Q : Type 0) (r : Result T E) → OnOk r P → OnOk r Q → OnOk r (P × Q)
+on-both P Q (Ok x) p q = (p, q)
+on-both P Q (Err e) p q = tt
+
 -- by the result of a `?`
 pub damaged-after : {X : Type 0} (Y : Type 0) {P Q : ℕ → Type 0} (f : LoadFault) (r : Result X LoadFault)
     → IsErrAnd r (λ e. e ≡ f) → ((at : ℕ) → P at → Q at) → OnDamaged {T = Y} (Err f) P → OnDamaged r Q

@@ -7,3 +7,4 @@ pub mod Loads
 pub mod Payloads
 pub mod Replays
 pub mod Stored
+pub mod Texts

@@ -1,10 +1,10 @@
 -- What a journal is made to in memory, and where that stops. For private clauses alone.
-use Rattle.std.specs.Prelude.{◌≡◌, ◌⊎◌, ◌++◌, ◌≤◌, List, [], ◌∷◌, map, None, Option, Some, ℕ}
+use Rattle.std.specs.Prelude.{◌≡◌, ◌⊎◌, ◌++◌, ◌≤◌, All, List, [], ◌∷◌, map, None, Option, Some, ℕ}
 use Rattle.std.specs.List.{AllByRecursion}
 use Rattle.commit_log.specs.Base.{entries_of}
 use Rattle.commit_log.specs.Change.{Change as Logged, change_of}
 use Rattle.commit_log.specs.Entry.{Entry, entry_of}
-use Rattle.commit_log.specs.Log.{IsLog, Takes, changes_of, payloads as log_payloads}
+use Rattle.commit_log.specs.Log.{IsLog, IsLogged, Takes, changes_of, payloads as log_payloads}
 use Rattle.commit_log.specs.declared.base.BaseEntry.{BaseEntry}
 use Rattle.commit_log.specs.declared.change.Commit.{Commit}
 use Rattle.disk_edge.specs.Disk.{DiskModel, IfTold}
@@ -66,6 +66,15 @@ pub record Stops (version : ℕ) (entries : List Entry) (log : List Commit) (at 
 abbrev pub HasCome : Memory → Option ℕ → ℕ → List (ℕ × BaseEntry) → List Commit → Type 0
 HasCome memory None version base log = Made memory version (entries_of base) (changes_of log)
 HasCome memory (Some at) version base log = LacksText base at ⊎ Stops version (entries_of base) log at
+
+-- so it is after a base and the first of these commits, and the others wait
+abbrev pub HasTaken : Memory → Option ℕ → List Commit → ℕ → List (ℕ × BaseEntry) → List Commit → Type 0
+HasTaken memory stopped waiting version base log =
+    (before : List Commit) × (log ≡ before ++ waiting) × HasCome memory stopped version base before
+
+-- a log may have each of these commits
+abbrev pub AreLogged : List Commit → Type 0
+AreLogged commits = All (λ (c : Commit). IsLogged (change_of c.wire)) commits
 
 -- These are the commits from one record on to the end, at which the journal rests.
 pub record IsReadTo {D : Type 0} (model : DiskModel D) (old new : Standing D) (log : List Commit) : Type 0 where

@@ -21,6 +21,8 @@ mod laws;
 mod payload;
 mod replay;
 mod store;
+mod texts;
+mod together;
 
 pub use disks::Disks;
 pub use laws::{

@@ -21,6 +21,12 @@ use std::alloc::{AllocError, Global};
 use std::sync::Arc;
 use store_core::{Change, IdState, Record, Recorder};
 
+/// The change of a commit, or why its text has no structure.
+pub(crate) type ReadChange = Result<Change, TextFault>;
+
+/// The record of a base entry, if it has a text, or why the text has no structure.
+pub(crate) type ReadRecord = Result<Option<Arc<Record>>, TextFault>;
+
 /// The payload of a change. A record's text is short.
 pub(crate) fn payload_of(alloc: Global, change: &Change) -> Result<Vec<u8>, AllocError>
     ensures payload { IfOk result (λ v. v.items ≡ payload (change_of change.now)) }
@@ -49,7 +55,7 @@ pub(crate) fn payload_of(alloc: Global, change: &Change) -> Result<Vec<u8>, Allo
 }
 
 /// The change that was logged, with the structure of its text. It is refused as the text is.
-pub(crate) fn change_from(recorder: &mut Recorder, wire: &Wire) -> Result<Change, TextFault>
+pub(crate) fn change_from(recorder: &mut Recorder, wire: &Wire) -> ReadChange
     requires { IsInRange (logged.change_of wire.now) }
     ensures change { IfOk result (λ c. change_of c ≡ told (logged.change_of wire.now)) }
     ensures fault { IfErr result (λ fault. fault ≢ NoMemory → ¬ IsValid (told (logged.change_of wire.now))) }
@@ -70,10 +76,7 @@ pub(crate) fn change_from(recorder: &mut Recorder, wire: &Wire) -> Result<Change
 
 /// The record of a base's entry, with the structure of its text, and none where the identifier was withdrawn. It is
 /// refused as the text is.
-pub(crate) fn record_from(
-    recorder: &mut Recorder,
-    entry: &BaseEntry,
-) -> Result<Option<Arc<Record>>, TextFault>
+pub(crate) fn record_from(recorder: &mut Recorder, entry: &BaseEntry) -> ReadRecord
     requires { IsId entry.now.id }
     ensures status { IfOk result (λ r. status_in entry.now.version r
         ≡ (told_entry (entry_of entry.now)).1) }

@@ -22,8 +22,9 @@ ghost use Rattle.store_machine.specs.declared.machine.Entry.{Entry};
 ghost use Rattle.store_machine.specs.declared.machine.State.{State};
 ghost use Rattle.store_disk.specs.Payloads.{told, told_entry};
 ghost use Rattle.store_disk.specs.Replays.{HasBased, HasCome, IsReadTo, IsReplayed, LacksText, Made, Stops};
+ghost use Rattle.store_disk.specs.Texts.{AreChanges, IsChange, IsRecord};
 
-use crate::payload::{change_from, record_from};
+use crate::payload::{ReadChange, ReadRecord, change_from, record_from};
 use commit_log::{BaseEntry, Commit, next_commit};
 use disk_edge::Disk;
 use journal_core::{Journal, LoadFault};
@@ -72,45 +73,48 @@ pub(crate) fn replay<D: Disk>(
     ensures header { journal.new.header ≡ journal.old.header }
     ensures looks { Looks D.model journal.old.disk journal.new.disk }
 {
-    let mut rebuild = Rebuild::begin(alloc, version, base)?;
+    let mut recorder = Recorder::new(alloc);
+    let made = based(alloc, &mut recorder, version, base);
+    let mut rebuild = Rebuild::begin(alloc, version, made)?;
     loop {
         match next_commit(alloc, journal) {
-            Ok(Some(commit)) => rebuild.add(commit)?,
+            Ok(Some(commit)) => rebuild.read(&mut recorder, commit)?,
             Ok(None) => return rebuild.end(commits),
             Err(fault) => return Err(fault),
         }
     }
 }
 
-// The store in memory as it is made, entry by entry and commit by commit.
+/// The store in memory as it is made, entry by entry and commit by commit.
 #[derive(Drop)]
-struct Rebuild {
-    recorder: Recorder,
-    memory: Memory,
+pub(crate) struct Rebuild {
+    pub(crate) memory: Memory,
     // The number of commits that were made since the entries that the head does not read were dropped.
     since: u32,
-    // The place of the first entry or commit that could not be made; none after it is made.
-    stopped: Option<u64>,
+    /// The place of the first entry or commit that could not be made; none after it is made.
+    pub(crate) stopped: Option<u64>,
 }
 
 impl Rebuild {
-    // The store in memory at a base.
-    fn begin(alloc: Global, version: u32, base: &[(u64, BaseEntry)]) -> Result<Rebuild, AllocError>
+    /// The store in memory at a base, or the place of the first entry that could not be made.
+    pub(crate) fn begin(
+        alloc: Global,
+        version: u32,
+        based: Result<Memory, LoadFault>,
+    ) -> Result<Rebuild, AllocError>
         requires within { version ≤ MOST_COMMITS }
-        requires entries { AreEntries version 0 (entries_of base.now) }
-        ensures { IfOk result (λ rebuild. HasCome rebuild.memory rebuild.stopped
-            version base.now []) }
+        ensures { IfOk result (λ rebuild. (base : List (ℕ × TheEntry))
+            → IfOk based (λ memory. HasBased memory version (entries_of base))
+            → OnDamaged based (LacksText base)
+            → HasCome rebuild.memory rebuild.stopped version base []) }
     {
-        let mut recorder = Recorder::new(alloc);
-        match based(alloc, &mut recorder, version, base) {
+        match based {
             Ok(memory) => Ok(Rebuild {
-                recorder,
                 memory,
                 since: 0,
                 stopped: None,
             }),
             Err(LoadFault::Damaged(at)) => Ok(Rebuild {
-                recorder,
                 memory: Memory::at_base(alloc, version),
                 since: 0,
                 stopped: Some(at),
@@ -119,28 +123,60 @@ impl Rebuild {
         }
     }
 
-    // Makes one more commit, if each before it was made.
-    fn add(&mut self, commit: Commit) -> Result<(), AllocError>
+    // Reads the text of one more commit, and makes the commit if each before it was made.
+    fn read(&mut self, recorder: &mut Recorder, commit: Commit) -> Result<(), AllocError>
         requires { IsLogged (logged.change_of commit.wire) }
         ensures { OnOk result ((version : ℕ) (base : List (ℕ × TheEntry))
             (log : List TheCommit) → HasCome self.old.memory self.old.stopped version base log
             → HasCome self.new.memory self.new.stopped version base (log ++ commit ∷ [])) }
     {
+        let change = change_from(recorder, &commit.wire);
+        self.add(&commit, change)
+    }
+
+    /// Makes commits whose texts were read, if each before them was made.
+    pub(crate) fn add_all(
+        &mut self,
+        commits: &[Commit],
+        changes: Vec<ReadChange>,
+    ) -> Result<(), AllocError>
+        requires { AreChanges commits.now changes.items }
+        ensures { OnOk result ((version : ℕ) (base : List (ℕ × TheEntry))
+            (log : List TheCommit) → HasCome self.old.memory self.old.stopped version base log
+            → HasCome self.new.memory self.new.stopped version base (log ++ commits.now)) }
+    {
+        let mut changes = changes.into_iter();
+        for commit in commits {
+            let Some(change) = changes.next() else {
+                unreachable!()
+            };
+            self.add(commit, change)?;
+        }
+        Ok(())
+    }
+
+    // Makes one more commit whose text was read, if each before it was made.
+    fn add(&mut self, commit: &Commit, change: ReadChange) -> Result<(), AllocError>
+        requires { IsChange commit.now change }
+        ensures { OnOk result ((version : ℕ) (base : List (ℕ × TheEntry))
+            (log : List TheCommit) → HasCome self.old.memory self.old.stopped version base log
+            → HasCome self.new.memory self.new.stopped version base (log ++ commit.now ∷ [])) }
+    {
         match self.stopped {
             Some(_) => Ok(()),
-            None => self.make(&commit),
+            None => self.make(commit, change),
         }
     }
 
     // Makes one more commit, or notes the place at which it cannot be made.
-    fn make(&mut self, commit: &Commit) -> Result<(), AllocError>
-        requires logged { IsLogged (logged.change_of commit.now.wire) }
+    fn make(&mut self, commit: &Commit, change: ReadChange) -> Result<(), AllocError>
+        requires change { IsChange commit.now change }
         requires made { self.old.stopped ≡ None }
         ensures { OnOk result ((version : ℕ) (base : List (ℕ × TheEntry))
             (log : List TheCommit) → Made self.old.memory version (entries_of base) (changes_of log)
             → HasCome self.new.memory self.new.stopped version base (log ++ commit.now ∷ [])) }
     {
-        match add(&mut self.recorder, &mut self.memory, commit) {
+        match add(&mut self.memory, commit, change) {
             Ok(()) => {
                 self.since = thinned(&mut self.memory, self.since);
                 Ok(())
@@ -153,8 +189,8 @@ impl Rebuild {
         }
     }
 
-    // The store, which takes `commits` commits in all, or the place of what could not be made.
-    fn end(self, commits: u32) -> Result<Memory, LoadFault>
+    /// The store, which takes `commits` commits in all, or the place of what could not be made.
+    pub(crate) fn end(self, commits: u32) -> Result<Memory, LoadFault>
         requires { commits ≤ MOST_COMMITS }
         ensures ok { IfOk result (λ memory. (version : ℕ) (base : List (ℕ × TheEntry))
             (log : List TheCommit) → HasCome self.memory self.stopped version base log
@@ -193,21 +229,22 @@ fn based(
 {
     let mut memory = Memory::at_base(alloc, version);
     for one in base {
-        put_entry(recorder, &mut memory, one)?;
+        put_entry(&mut memory, one, record_from(recorder, &one.1))?;
     }
     Ok(memory)
 }
 
-// Puts one more entry, with the place of its record, into memory.
-fn put_entry(
-    recorder: &mut Recorder,
+/// Puts one more entry, with the place of its record, into memory.
+pub(crate) fn put_entry(
     memory: &mut Memory,
     one: &(u64, BaseEntry),
+    answer: ReadRecord,
 ) -> Result<(), LoadFault>
     requires in_range { IsId one.now.1.id }
     requires since { 1 ≤ one.now.1.version }
     requires until { one.now.1.version ≤ memory.old.version }
     requires before { IsBefore memory.old one.now.1.id }
+    requires read { IsRecord one.now answer }
     ensures ok { OnOk result (IsGiven memory.old memory.new one.now.1.id
         (told_entry (entry_of one.now.1)).1) }
     ensures damaged { OnDamaged result (λ at. (at ≡ one.now.0)
@@ -217,7 +254,7 @@ fn put_entry(
     ensures no_other { ¬ IsErrOf result LoadFault.NotAStore }
 {
     let (at, entry) = one;
-    match record_from(recorder, entry) {
+    match answer {
         Ok(record) => match memory.put_base(entry.id, entry.version, record) {
             Ok(()) => Ok(()),
             Err(_) => Err(LoadFault::NoMemory),
@@ -228,8 +265,8 @@ fn put_entry(
 }
 
 // Makes one more commit.
-fn add(recorder: &mut Recorder, memory: &mut Memory, commit: &Commit) -> Result<(), LoadFault>
-    requires { IsLogged (logged.change_of commit.now.wire) }
+fn add(memory: &mut Memory, commit: &Commit, change: ReadChange) -> Result<(), LoadFault>
+    requires { IsChange commit.now change }
     ensures ok { OnOk result ((s : State) → StandsFor memory.old (served s)
         → MayAdd s (told (logged.change_of commit.now.wire))
         × StandsFor memory.new (served (committed s (told (logged.change_of commit.now.wire))))) }
@@ -239,7 +276,7 @@ fn add(recorder: &mut Recorder, memory: &mut Memory, commit: &Commit) -> Result<
     ensures no_disk { ¬ IsErrOf result LoadFault.Disk }
     ensures no_other { ¬ IsErrOf result LoadFault.NotAStore }
 {
-    match change_from(recorder, &commit.wire) {
+    match change {
         Ok(change) => match memory.prepare(&change) {
             Ok(()) => {
                 memory.make(change);

@@ -36,6 +36,7 @@ use crate::copy::{Copying, queue, reserve};
 use crate::disks::Disks;
 use crate::payload::payload_of;
 use crate::replay::replay;
+use crate::together::replay_by;
 use chem_core::Print;
 use commit_log::read_base;
 use disk_edge::{Disk, MemDisk, NoDisk};
@@ -45,6 +46,7 @@ use snap_registry::Pin;
 use std::alloc::{AllocError, Global};
 use std::marker::Model;
 use std::sync::ledger::Ledger;
+use std::thread::Threads;
 use store_core::{
     CallFault, Change, CommitFault, Compact, CompactFault, Look, MOST_COMMITS, Page, Service,
     Stats, Steps, Store as Memory,
@@ -136,6 +138,70 @@ impl<D: Disk + Drop> Store<D> {
             second,
         } = picked;
         match memory_of(alloc, &mut journal, commits) {
+            Ok(memory) => Ok(Store {
+                alloc,
+                memory,
+                pair: Pair::new(
+                    alloc,
+                    Picked {
+                        journal,
+                        other,
+                        second,
+                    },
+                ),
+                copy: None,
+            }),
+            Err(fault) => Err((fault, disks_of(journal.into_disk(), other, second))),
+        }
+    }
+
+    /// As `load`, by at most `workers` threads, which read the texts of base entries and of commits if there are enough of
+    /// them. 0 counts as 1. What is opened or refused does not depend on their number.
+    pub fn load_by<R: Threads + Sync>(
+        rt: &R,
+        workers: u32,
+        alloc: Global,
+        disks: Disks<D>,
+        commits: u32,
+    ) -> Result<Store<D>, (LoadFault, Disks<D>)>
+        requires some { 1 ≤ commits }
+        requires few { commits ≤ MOST_COMMITS }
+
+        ensures opened { IfOk result (λ store. (s : State) × StandsFor D.model store s
+            × IsOpened commits s × IfTold (D.model.content disks.a)
+            (λ x. IfTold (D.model.content disks.b) (λ y. OpensTo s.history s.generation x y))) }
+        // A crash now may leave of the disk that was read what a read gives.
+        ensures synced { IfOk result (λ store. IfTold (D.model.content store.pair.journal.disk)
+            (D.model.images store.pair.journal.disk)) }
+        ensures not_a_store { IfErr result (λ e. e.0 ≡ LoadFault.NotAStore
+            → IfTold (D.model.content disks.a)
+            (λ x. IfTold (D.model.content disks.b) (λ y. (¬ IsOpen x) × (¬ IsOpen y)))) }
+        ensures damaged { IfErr result (λ e. (at : ℕ) → e.0 ≡ LoadFault.Damaged at
+            → IfTold (D.model.content disks.a)
+            (λ x. IfTold (D.model.content disks.b) (Damages at x))) }
+        ensures cause { IfErr result (λ e. e.0 ≡ LoadFault.Disk
+            → Rose (D.model.faults disks.a) (D.model.faults e.1.a)
+            ⊎ Rose (D.model.faults disks.b) (D.model.faults e.1.b)) }
+
+        // What a read gives stays, and each image during the call was one before.
+        ensures narrows_a { Narrows D.model disks.a (a_after result) }
+        ensures narrows_b { Narrows D.model disks.b (b_after result) }
+    {
+        if workers < 2 {
+            return Store::load(alloc, disks, commits);
+        }
+        rebases_keep();
+        let Disks { a, b } = disks;
+        let picked = match disk_pair::load(alloc, a, b) {
+            Ok(picked) => picked,
+            Err((fault, a, b)) => return Err((fault, Disks { a, b })),
+        };
+        let Picked {
+            mut journal,
+            other,
+            second,
+        } = picked;
+        match memory_by(rt, workers as usize, alloc, &mut journal, commits) {
             Ok(memory) => Ok(Store {
                 alloc,
                 memory,
@@ -404,6 +470,41 @@ fn memory_of<D: Disk>(
     }
     let base = read_base(alloc, journal)?;
     replay(alloc, journal, version, &base, commits)
+}
+
+// As `memory_of`, by at most `workers` threads.
+fn memory_by<R: Threads + Sync, D: Disk>(
+    rt: &R,
+    workers: usize,
+    alloc: Global,
+    journal: &mut Journal<D>,
+    commits: u32,
+) -> Result<Memory, LoadFault>
+    requires some { 1 ≤ commits }
+    requires few { commits ≤ MOST_COMMITS }
+    requires opening { IsOpening D.model journal.old }
+
+    ensures loaded { IfOk result (λ memory. IsLoaded D.model memory commits
+        journal.old journal.new) }
+    ensures ready { OnOk result (journal.new.ready ≡ true) }
+    ensures place { IfOk result (λ memory. journal.new.place
+        ≤ 20 + (5 + LONGEST_PAYLOAD) * (journal.new.header.base_count + memory.version)) }
+    ensures damaged { OnDamaged result (λ at. IfTold (D.model.content journal.old.disk)
+        (DamagesDisk at)) }
+    ensures cause { IsErrOf result LoadFault.Disk
+        → Faulted D.model journal.old.disk journal.new.disk }
+    ensures no_other { ¬ IsErrOf result LoadFault.NotAStore }
+
+    ensures header { journal.new.header ≡ journal.old.header }
+    ensures settled { journal.new.doubt ≡ false }
+    ensures looks { Looks D.model journal.old.disk journal.new.disk }
+{
+    let version = journal.header().base_version;
+    if version > MOST_COMMITS {
+        return Err(LoadFault::Damaged(VERSION_PLACE));
+    }
+    let base = read_base(alloc, journal)?;
+    replay_by(rt, workers, alloc, journal, version, &base, commits)
 }
 
 // The two disks, of which the second one may be the current one.

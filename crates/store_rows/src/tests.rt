@@ -8,6 +8,7 @@ use store_core::{Change, Record, Service, Store};
 mod chains;
 mod kept;
 mod lookups;
+mod openings;
 mod pins;
 mod records;
 mod searches;

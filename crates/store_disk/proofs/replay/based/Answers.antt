@@ -6,6 +6,10 @@ use Rattle.store_disk.proofs.replay.based.Goals as goal
 pub loop-one-init : goal.loop-one-init
 loop-one-init c = (c.at_base-memory.ensures.version, c.at_base-memory.ensures.stands)
 
+pub record_from-requires : goal.record_from-requires
+record_from-requires c = in-range c.args.version c.args.base.now c.loop-one.one-index c.one-item.result
+    c.loop-one-test.true c.one-item.is c.requires.entries
+
 pub put_entry-requires-clause-in_range : goal.put_entry-requires-clause-in_range
 put_entry-requires-clause-in_range c = in-range c.args.version c.args.base.now c.loop-one.one-index c.one-item.result
     c.loop-one-test.true c.one-item.is c.requires.entries
@@ -26,6 +30,13 @@ pub put_entry-requires-clause-before : goal.put_entry-requires-clause-before
 put_entry-requires-clause-before c = is-before c.args.version c.args.base.now c.loop-one.one-index c.one-item.result
     c.loop-one-test.true c.one-item.is c.requires.entries c.loop-one.memory c.loop-one.invariant.0
     c.loop-one.invariant.1
+
+pub put_entry-requires-clause-read : goal.put_entry-requires-clause-read
+put_entry-requires-clause-read c = record {
+  status = c.record_from.ensures.status;
+  own = c.record_from.ensures.own;
+  fault = c.record_from.ensures.fault;
+}
 
 pub returns-in_err-put_entry-clause-damaged : goal.returns-in_err-put_entry-clause-damaged
 returns-in_err-put_entry-clause-damaged c =

@@ -12,7 +12,7 @@ loop-commit-init g c = (
   [],
   reading-none g.D.Disk.model c.args.journal.now c.requires.settled
       (looks_none g.D.Disk.model c.args.journal.now.disk (g.met.D.Disk.only_now c.args.journal.now.disk)),
-  c.in_ok-rebuild.ensures,
+  c.in_ok-rebuild.ensures c.args.base.now c.based-made.ensures.ok c.based-made.ensures.damaged,
 )
 
 pub loop-commit-preserved : goal.loop-commit-preserved
@@ -25,11 +25,11 @@ loop-commit-preserved g c =
       reading-more g.D.Disk.model c.args.journal.now g.met.D.Disk.parts c.loop-commit.journal
           c.next_commit.new.journal was.0 was.1 commit found reads c.in-Ok-Some.ensures.settled
           c.in-Ok-Some.ensures.header c.in-Ok-Some.ensures.looks,
-      c.in_ok-add-in-Ok-Some.ensures c.args.version c.args.base.now was.0 was.2,
+      c.in_ok-read-in-Ok-Some.ensures c.args.version c.args.base.now was.0 was.2,
     )
 
-pub returns-in_err-add-in-Ok-Some-clause-looks : goal.returns-in_err-add-in-Ok-Some-clause-looks
-returns-in_err-add-in-Ok-Some-clause-looks g c =
+pub returns-in_err-read-in-Ok-Some-clause-looks : goal.returns-in_err-read-in-Ok-Some-clause-looks
+returns-in_err-read-in-Ok-Some-clause-looks g c =
     let was = c.loop-commit.invariant in
     looks-more g.D.Disk.model c.args.journal.now g.met.D.Disk.parts c.loop-commit.journal c.next_commit.new.journal
     was.0 was.1 c.in-Ok-Some.ensures.looks

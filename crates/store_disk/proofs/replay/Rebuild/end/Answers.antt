@@ -10,6 +10,6 @@ returns-in-None-clause-ok c = λ version base log come.
     replayed version (entries_of base) c.args.self.memory c.opened.result c.args.commits (changes_of log)
     (subst (λ (o : Option ℕ). HasCome c.args.self.memory o version base log) c.in-None.is come) c.opened.ensures
 
-pub returns-clause-damaged : goal.returns-clause-damaged
-returns-clause-damaged c = λ version base log come.
+pub returns-in-Some-clause-damaged : goal.returns-in-Some-clause-damaged
+returns-in-Some-clause-damaged c = λ version base log come.
     subst (λ (o : Option ℕ). HasCome c.args.self.memory o version base log) c.in-Some.is come
