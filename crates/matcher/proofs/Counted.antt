@@ -57,7 +57,7 @@ prim_true bonds.Unwritten m b x (inl h) = ap (λ k. bit_at 17 (kind_number k)) h
 prim_true bonds.Unwritten m b x (inr h) = ap (λ k. bit_at 17 (kind_number k)) h
 
 -- a bond at which an expression is true is of one of its kinds
-kinds_true : (e : Term BondPrim) (m : Molecule) (b : ℕ) (x : Bond) → slice_get m.bonds b ≡ Some x → BondTrue e m b
+pub kinds_true : (e : Term BondPrim) (m : Molecule) (b : ℕ) (x : Bond) → slice_get m.bonds b ≡ Some x → BondTrue e m b
     → bit_at (kinds_of e) (kind_number x.kind) ≡ 1
 kinds_true (Prim p) m b x get h = subst (λ (y : Bond). bit_at (prim_kinds p) (kind_number y.kind) ≡ 1)
     (same_Some h.0 x (sym h.1 ∙ get)) (prim_true p m b h.0 h.2)

@@ -19,7 +19,7 @@ use Rattle.matcher.proofs.Joins.{among_neighbours, joined_back, neighbour_joined
 use Rattle.matcher.proofs.Plans.{high_below}
 
 -- a bond of the graph as it is read from memory
-read_bond : (bonds : List PatBond) (k : ℕ) (b : PatBond) → k < length bonds → b ≡ get_or bonds k b → (d : BondTerm)
+pub read_bond : (bonds : List PatBond) (k : ℕ) (b : PatBond) → k < length bonds → b ≡ get_or bonds k b → (d : BondTerm)
     → get_or (map bond_of bonds) k d ≡ bond_of b
 read_bond bonds k b l is d = get_or-map bond_of bonds k b d l ∙ ap bond_of (sym is)
 

@@ -21,9 +21,12 @@ pub mod Ones
 pub mod Narrowings
 pub mod Classes
 pub mod Hunts
+pub mod Follows
 pub mod Rings
 pub mod Groups
 pub mod Removals
 pub mod Seconds
 pub mod Pairs
 pub mod Counted
+pub mod Routes
+pub mod KindsOnly

@@ -167,7 +167,7 @@ around_more g marks words place k atoms count other searchable h marked joined =
 }
 
 -- an embedding has different atoms at different places
-apart : (task : Task) (image : List ℕ) (p q : ℕ) → Embeds task image → p < length image → q < length image → p ≢ q
+pub apart : (task : Task) (image : List ℕ) (p q : ℕ) → Embeds task image → p < length image → q < length image → p ≢ q
     → slice_index image p ≡ slice_index image q → ⊥
 apart task image p q e lp lq differ same = elim (cases_lt p q) [
   | inl before ↦ e.distinct p q 0 before lq same

@@ -43,7 +43,7 @@ pub led_here : (expr : Term BondPrim) (m : Molecule) (bonds : List Bond) (second
 led_here expr m bonds second n place x same holds h =
     (place, omega arith, subst (BondTrue expr m) (sym same) holds, h)
 
-joined_read : (m : Molecule) (k : ℕ) → k < length m.bonds
+pub joined_read : (m : Molecule) (k : ℕ) → k < length m.bonds
     → JoinsAt (ends_of m) k (get_or m.bonds k no_bond).a (get_or m.bonds k no_bond).b
 joined_read m k l =
     let inside : k < length (ends_of m) = subst (λ n. k < n) (sym (length-map m.bonds (λ (z : Bond). (z.a, z.b)))) l in

@@ -73,7 +73,7 @@ second_begins parts g m words steps bonds bond block all second found i small sa
     let both = bit_at_and all found i in
     omega arith
 
-joins_within : (m : Molecule) (b x y : ℕ) → JoinsAt (ends_of m) b x y → b < length m.bonds
+pub joins_within : (m : Molecule) (b x y : ℕ) → JoinsAt (ends_of m) b x y → b < length m.bonds
 joins_within m b x y joins = subst (λ n. b < n) (length-map m.bonds (λ (z : Bond). (z.a, z.b))) (elim joins [
   | inl e ↦ slice_get_within (ends_of m) b (x, y) e
   | inr e ↦ slice_get_within (ends_of m) b (y, x) e

@@ -13,3 +13,6 @@ pub mod Task
 pub mod Group
 pub mod Wanted
 pub mod Counted
+pub mod Route
+pub mod Laid
+pub mod Follow

@@ -1,5 +1,5 @@
 -- The data prepared for a pattern. For callers `IsPreparedFor`, of the scratch; the others for private clauses alone.
-use Rattle.std.specs.Prelude.{◌≡◌, ℕ, ◌+◌, ◌≤◌, Bool, List, [], ◌∷◌, length, slice_get, Some, IfSome}
+use Rattle.std.specs.Prelude.{◌≡◌, ℕ, ◌+◌, ◌≤◌, Bool, List, [], ◌∷◌, length, slice_get, Some, IfNone, IfSome}
 use Rattle.smarts_parse.specs.declared.pattern.AtomPrim.TheVariants.{Rec}
 use Rattle.smarts_parse.specs.Pattern.{GraphTerm, PatternTerm, Prim}
 use Rattle.matcher.specs.declared.planned.Plans.{Plans}
@@ -8,6 +8,8 @@ use Rattle.matcher.specs.declared.scratch.Scratch.{Scratch}
 use Rattle.matcher.specs.Counted.{AreAsked}
 use Rattle.matcher.specs.Plan.{ArePartsPlanned, StandsAt}
 use Rattle.matcher.specs.Ring.{AreRingMarks}
+use Rattle.matcher.specs.Laid.{IsRouteOf}
+use Rattle.matcher.specs.declared.route.Route.{Route}
 use Rattle.matcher.specs.Wanted.{AreWanted}
 
 -- the steps of all graphs are those of the pattern's
@@ -24,7 +26,11 @@ IsOnlyPart p part = (part + 1 ≡ length p.recs) × (p.top.atoms ≡ Prim (Rec p
 abbrev pub ArePartMarks : PatternTerm → List Bool → ℕ → Type 0
 ArePartMarks p marks part = (g : GraphTerm) → slice_get p.recs part ≡ Some g → AreRingMarks g marks
 
--- the data worked out are of the pattern
+-- the route is of the part
+abbrev pub IsPartRoute : PatternTerm → Route → ℕ → Type 0
+IsPartRoute p route part = (g : GraphTerm) → slice_get p.recs part ≡ Some g → IsRouteOf g route
+
+-- the data worked out are of the pattern; the route is of its last part, if it asks for that part alone
 pub record IsPrepared (p : PatternTerm) (prepared : Prepared) : Type 0 where
   pub asked : AreAsked p prepared.asked
   pub planned : IsPlanned p prepared.plans
@@ -32,6 +38,8 @@ pub record IsPrepared (p : PatternTerm) (prepared : Prepared) : Type 0 where
   pub only : IfSome prepared.part (IsOnlyPart p)
   pub top_marks : AreRingMarks p.top prepared.closing.on_ring.items
   pub part_marks : IfSome prepared.part (ArePartMarks p prepared.closing.on_ring.items)
+  pub part_route : IfSome prepared.part (IsPartRoute p prepared.route)
+  pub top_route : IfNone prepared.part (IsRouteOf p.top prepared.route)
 
 -- the scratch was prepared for the pattern
 abbrev pub IsPreparedFor : PatternTerm → Scratch → Type 0

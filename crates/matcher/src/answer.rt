@@ -10,10 +10,12 @@ ghost use Rattle.matcher.specs.Partial.{CanComplete};
 ghost use Rattle.matcher.specs.Plan.{IsReady};
 ghost use Rattle.matcher.specs.Prepared.{IsPrepared};
 ghost use Rattle.matcher.specs.Ring.{AreRingMarks};
+ghost use Rattle.matcher.specs.Laid.{IsRouteOf};
 ghost use Rattle.matcher.specs.Task.{Completes, IsReadyTask};
 
-use crate::candidates::Candidates;
+use crate::candidates::{Candidates, MOST_BITS};
 use crate::choices::Choices;
+use crate::follow::{Trail, follow};
 use crate::grouping::Grouping;
 use crate::hunt::{is_whole, may_continue};
 use crate::lay::{NO_BOND, Order, Placement, is_rare};
@@ -119,6 +121,7 @@ fn exists(
 ) -> bool
     requires ready { IsReady (graph_of graph.now) steps.now }
     requires marks { AreRingMarks (graph_of graph.now) prepared.now.closing.on_ring.items }
+    requires route { IsRouteOf (graph_of graph.now) prepared.now.route }
     ensures { IsTrue result ↔ CanComplete (HoldsIn memory.old.table) (graph_of graph.now) mol.now [] }
 {
     let task = Task {
@@ -128,18 +131,19 @@ fn exists(
         steps,
     };
     let candidates = &mut memory.candidates;
-    if is_refused(
-        &task,
-        &prepared.closing,
-        candidates,
-        &mut memory.narrowing,
-        &mut memory.grouping,
-        &mut memory.choices,
-    ) {
+    if is_refused(&task, &prepared.closing, candidates, &mut memory.narrowing) {
         return false;
     }
-    let candidates = &memory.candidates;
     let image = &mut memory.image;
+    let route = &prepared.route;
+    if route.has_stops() && mol.atoms().len() <= MOST_BITS {
+        if let Some(found) = follow(&task, candidates, route, &mut memory.trail, image) {
+            return found;
+        }
+    }
+    if is_refused_apart(&task, candidates, &mut memory.grouping, &mut memory.choices) {
+        return false;
+    }
     if let Some(found) = seek(&task, candidates, &prepared.order, image) {
         return found;
     }
@@ -248,14 +252,10 @@ fn find(pattern: &Pattern, prepared: &Prepared, mol: &Mol, memory: &mut Memory) 
         steps,
     };
     let candidates = &mut memory.candidates;
-    if is_refused(
-        &task,
-        &prepared.closing,
-        candidates,
-        &mut memory.narrowing,
-        &mut memory.grouping,
-        &mut memory.choices,
-    ) {
+    if is_refused(&task, &prepared.closing, candidates, &mut memory.narrowing) {
+        return false;
+    }
+    if is_refused_apart(&task, candidates, &mut memory.grouping, &mut memory.choices) {
         return false;
     }
     let image = &mut memory.image;
@@ -269,8 +269,6 @@ fn is_refused(
     closing: &Closing,
     candidates: &mut Candidates,
     narrowing: &mut Narrowing,
-    grouping: &mut Grouping,
-    choices: &mut Choices,
 ) -> bool
     requires ready { IsReadyTask task.now }
     requires marks { AreRingMarks (graph_of task.now.graph.now) closing.now.on_ring.items }
@@ -287,9 +285,21 @@ fn is_refused(
     if lacks_candidate(task, candidates) {
         return true;
     }
-    if narrowing.refuse(task, closing, candidates) {
-        return true;
-    }
+    narrowing.refuse(task, closing, candidates)
+}
+
+// As `is_refused`, by bonds that few bonds fit, by groups, and by choices of different atoms for all places.
+fn is_refused_apart(
+    task: &Task,
+    candidates: &mut Candidates,
+    grouping: &mut Grouping,
+    choices: &mut Choices,
+) -> bool
+    requires ready { IsReadyTask task.now }
+    requires candidates { AreCandidates task.now candidates.old.words.items }
+    ensures refused { IsTrue result → ¬ Completes task.now [] }
+    ensures candidates { AreCandidates task.now candidates.new.words.items }
+{
     if lacks_bond(task, candidates) {
         return true;
     }

@@ -100,8 +100,8 @@ fn is_sure(bond: &PatBond, steps: &[EarlierBonds], sort: BondSort) -> bool
     of_kind & ((one_a & other_b) | (one_b & other_a))
 }
 
-// The kinds of the bonds at which the expression may be true, and maybe others.
-fn kinds_of(expr: &Expr<BondPrim>) -> u64
+/// The kinds of the bonds at which the expression may be true, and maybe others.
+pub fn kinds_of(expr: &Expr<BondPrim>) -> u64
     ensures { result ≡ kinds_of (term_of expr.now) }
 {
     match expr {

@@ -72,10 +72,11 @@ impl Order {
     }
 }
 
-// The classes of carbon, and those of nitrogen and oxygen.
-const CARBON: u64 = 0x3000;
+/// The classes of carbon.
+pub const CARBON: u64 = 0x3000;
 
-const COMMON: u64 = 0x3c000;
+/// Those of nitrogen and oxygen.
+pub const COMMON: u64 = 0x3c000;
 
 /// A search that begins at the place.
 pub fn start_at(place: u16) -> Placement {
@@ -167,8 +168,8 @@ pub fn is_rare(bond: &PatBond) -> bool {
     }
 }
 
-// True if a bond of a graph asks for one kind of bond: single, double or triple.
-fn is_written(bond: &PatBond) -> bool {
+/// True if a bond of a graph asks for one kind of bond: single, double or triple.
+pub fn is_written(bond: &PatBond) -> bool {
     match bond.expr {
         Expr::Prim(prim) => prim == BondPrim::Single || is_rare(bond),
         _ => false,
@@ -291,8 +292,8 @@ fn lay_next(bond: &PatBond, place: usize, stops: &mut [Placement], laid: Laid) -
     }
 }
 
-// The end of a bond that is not in `seen`, if the other end is.
-fn next_place(bond: &PatBond, seen: u64) -> Option<u16> {
+/// The end of a bond that is not in `seen`, if the other end is.
+pub fn next_place(bond: &PatBond, seen: u64) -> Option<u16> {
     let one = seen & bit(bond.a) != 0;
     let other = seen & bit(bond.b) != 0;
     if one == other {
@@ -304,7 +305,8 @@ fn next_place(bond: &PatBond, seen: u64) -> Option<u16> {
     }
 }
 
-fn bit(place: u16) -> u64 {
+/// The bit of a place.
+pub fn bit(place: u16) -> u64 {
     1 << (place % 64)
 }
 

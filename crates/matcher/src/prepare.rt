@@ -9,6 +9,7 @@ use crate::first_line::asked;
 use crate::lay::Order;
 use crate::planned::Plans;
 use crate::ring::Closing;
+use crate::route::Route;
 use crate::wanted::Wanted;
 use chem_core::{SORT_ROOM, SortCounts};
 use smarts_parse::{AtomPrim, Expr, Pattern};
@@ -23,6 +24,7 @@ pub struct Prepared {
     pub wanted: Wanted,
     pub order: Order,
     pub closing: Closing,
+    pub route: Route,
     /// The number of the last recursive part, if the pattern asks for this part at one atom and for nothing else.
     pub part: Option<usize>,
 }
@@ -42,6 +44,7 @@ impl Prepared {
             wanted: Wanted::reserve(alloc)?,
             order: Order::reserve(alloc)?,
             closing: Closing::reserve(alloc)?,
+            route: Route::reserve(alloc)?,
             part: None,
         })
     }
@@ -62,11 +65,14 @@ impl Prepared {
                 let steps = self.plans.part(pattern, part);
                 self.order.lay(&pattern.recs[part], steps);
                 self.closing.find(&pattern.recs[part], steps);
+                self.route
+                    .lay(&pattern.recs[part], steps, self.closing.marks());
             }
             None => {
                 let steps = self.plans.top(pattern);
                 self.order.lay(&pattern.top, steps);
                 self.closing.find(&pattern.top, steps);
+                self.route.lay(&pattern.top, steps, self.closing.marks());
             }
         }
     }

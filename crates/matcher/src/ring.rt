@@ -62,6 +62,11 @@ impl Closing {
         &self.bonds[..self.count]
     }
 
+    /// For each bond whether it is known to lie on a ring.
+    pub fn marks(&self) -> &[bool] {
+        &self.on_ring
+    }
+
     /// The marks of the bonds that are known to lie on rings; `None` if no bond is.
     pub fn rings(&self) -> Option<&[bool]>
         ensures { IfSome result (λ marks. IsTrue self.now.has_ring × (marks.now ≡ self.now.on_ring.items)) }

@@ -3,6 +3,7 @@ ghost use Rattle.std.specs.Prelude.{◌≤◌, vec_len};
 
 use crate::candidates::Candidates;
 use crate::choices::Choices;
+use crate::follow::Trail;
 use crate::grouping::Grouping;
 use crate::narrow::Narrowing;
 use crate::planned::MOST_PLACES;
@@ -29,6 +30,7 @@ pub struct Memory {
     pub candidates: Candidates,
     pub narrowing: Narrowing,
     pub grouping: Grouping,
+    pub trail: Trail,
     ghost image_room: { 256 ≤ vec_len image },
 }
 
@@ -66,6 +68,7 @@ impl Memory {
             candidates: Candidates::reserve(alloc)?,
             narrowing: Narrowing::reserve(alloc)?,
             grouping: Grouping::reserve(alloc)?,
+            trail: Trail::reserve(alloc)?,
         })
     }
 }

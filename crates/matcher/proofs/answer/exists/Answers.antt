@@ -8,6 +8,12 @@ returns-then-is_refused c = (
   λ w. absurd (c.is_refused.ensures.refused c.if-is_refused.true w),
 )
 
+pub returns-then-is_refused_apart : goal.returns-then-is_refused_apart
+returns-then-is_refused_apart c = (
+  λ t. absurd (false≢true t),
+  λ w. absurd (c.is_refused_apart.ensures.refused c.if-is_refused_apart.true w),
+)
+
 pub returns : goal.returns
 returns c = (
   λ t. (take (length c.args.graph.now.atoms.items) c.place_least.new.image, (c.place_least.ensures.found t).embeds),

@@ -46,3 +46,15 @@ returns-then-is_refused-clause-none c =
     λ _. none_of p m c.args.prepared.now.wanted.classes.items c.note_parts.new.memory.table c.requires.sound
     c.requires.prepared.wanted noted
     (c.is_refused.ensures.refused c.if-is_refused.true)
+
+pub returns-then-is_refused_apart-clause-none : goal.returns-then-is_refused_apart-clause-none
+returns-then-is_refused_apart-clause-none c =
+    let p = pattern_of c.args.pattern.now in
+    let m = c.args.mol.now in
+    let noted = subst (λ k. AreNoted p.recs m c.args.prepared.now.wanted.classes.items k
+    c.note_parts.new.memory.table)
+    (omega (arith, length-map c.args.pattern.now.recs.items graph_of, c.args.pattern.now.recs.ok.0))
+    c.note_parts.ensures in
+    λ _. none_of p m c.args.prepared.now.wanted.classes.items c.note_parts.new.memory.table c.requires.sound
+    c.requires.prepared.wanted noted
+    (c.is_refused_apart.ensures.refused c.if-is_refused_apart.true)

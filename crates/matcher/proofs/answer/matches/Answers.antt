@@ -4,7 +4,7 @@ use Rattle.std.proofs.lemmas.Bool.{cases_Bool, false≢true}
 use Rattle.std.proofs.lemmas.List.{length-map}
 use Rattle.smarts_parse.specs.Pattern.{graph_of, pattern_of}
 use Rattle.matcher.specs.Parts.{AreNoted}
-use Rattle.matcher.specs.Prepared.{ArePartMarks, IsOnlyPart}
+use Rattle.matcher.specs.Prepared.{ArePartMarks, IsOnlyPart, IsPartRoute}
 use Rattle.matcher.proofs.OnlyParts.{only_part_holds, part_read}
 use Rattle.matcher.proofs.PartsHeld.{none_of, some_of}
 use Rattle.matcher.proofs.answer.matches.Goals as goal
@@ -44,6 +44,15 @@ exists-requires-clause-marks c =
     let marks : ArePartMarks p c.args.prepared.now.closing.on_ring.items c.in-Some.part = rw c.in-Some.is at
     c.requires.prepared.part_marks in
     marks (graph_of c.index.result.now)
+    (part_read c.args.pattern.now c.in-Some.part c.index.result.now only c.index.ensures)
+
+pub exists-requires-clause-route : goal.exists-requires-clause-route
+exists-requires-clause-route c =
+    let p = pattern_of c.args.pattern.now in
+    let only : IsOnlyPart p c.in-Some.part = rw c.in-Some.is at c.requires.prepared.only in
+    let routed : IsPartRoute p c.args.prepared.now.route c.in-Some.part = rw c.in-Some.is at
+    c.requires.prepared.part_route in
+    routed (graph_of c.index.result.now)
     (part_read c.args.pattern.now c.in-Some.part c.index.result.now only c.index.ensures)
 
 pub returns-in-Some : goal.returns-in-Some
