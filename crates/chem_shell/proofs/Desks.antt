@@ -81,9 +81,11 @@ numbered n (x ∷ xs) none = All-cons (λ (x : Step). (1 ≤ x.owner) × (x.owne
     (numbered n xs (λ m out. none_behind (has (m ∷ []) x.owner) x (own by (m ∷ []) xs) (none m out)))
 
 -- the causes of the ends' statuses
-pub end_causes : {S K : Type 0} (source : taken.Ghosts S) (sink : put.Ghosts K) (plan : Plan) (olds news : List (End S K)) → length news ≡ length olds
+pub end_causes : {S K : Type 0} (source : taken.Ghosts S) (sink : put.Ghosts K) (plan : Plan)
+    (olds news : List (End S K)) → length news ≡ length olds
     → ((i : ℕ) (d : End S K) → i < length olds
-    → (calls : Calls) × EndServed source sink (settings_of plan) (slice_index_or olds i d) (slice_index_or news i d) calls)
+    → (calls : Calls) × EndServed source sink (settings_of plan) (slice_index_or olds i d)
+    (slice_index_or news i d) calls)
     → AllZip (HasEndCauses source.left source.faults sink.faults) olds news
     × All IsOfEnd (map (λ (end : End S K). end.status) news)
 end_causes source sink plan [] [] count each = (tt, All-nil IsOfEnd)
@@ -91,7 +93,8 @@ end_causes source sink plan [] (new ∷ news) count each = absurd (omega (arith,
 end_causes source sink plan (old ∷ olds) [] count each = absurd (omega (arith, count))
 end_causes source sink plan (old ∷ olds) (new ∷ news) count each =
     let end = (each 0 old (omega arith)).1 in
-    let rest = end_causes source sink plan olds news (omega (arith, count)) (λ i d less. each (suc i) d (omega (arith, less))) in (
+    let rest = end_causes source sink plan olds news (omega (arith, count))
+    (λ i d less. each (suc i) d (omega (arith, less))) in (
       (causes_of_end source sink end.ended old new end.status end.ends, rest.0),
       All-cons IsOfEnd new.status (map (λ end. end.status) news)
           (status_of_end end.ended new.status end.status) rest.1,

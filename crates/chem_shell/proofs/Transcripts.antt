@@ -218,8 +218,11 @@ nothing_put : (page : ℕ) (h : History) (input before : Option (List ℕ))
     → IfSome input (λ bytes. Writes before before (IsTranscriptPrefixBy page bytes [] h))
 nothing_put page h None before = tt
 nothing_put page h (Some bytes) None = tt
-nothing_put page h (Some bytes) (Some old) =
-    ([], ap Some (sym (append-nil old)), (nothing_begins page (lines_of bytes), nothing_is_true h page (lines_of bytes)))
+nothing_put page h (Some bytes) (Some old) = (
+  [],
+  ap Some (sym (append-nil old)),
+  (nothing_begins page (lines_of bytes), nothing_is_true h page (lines_of bytes)),
+)
 
 pub none_taken : (input : Option (List ℕ)) (n : ℕ) → TakesAtMost input input n
 none_taken None n = tt

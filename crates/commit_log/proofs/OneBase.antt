@@ -2,7 +2,7 @@
 use Rattle.std.proofs.Common.{◌≡◌, ◌⊎◌, inl, inr, ⊎_elim, ◌<◌, ◌^◌, ℕ, List, [], ◌∷◌, ◌++◌, length, drop, refl, sym, ◌∙◌, ap, subst, arith, append_assoc}
 use Rattle.std.proofs.lemmas.List.{drop_at}
 use Rattle.journal_core.specs.Fronts.{BreaksBase, IsHeader, base_records, behind_gate, front_of}
-use Rattle.journal_core.specs.RecordLaws.{same_body}
+use Rattle.journal_core.proofs.RecordLaws.{same_body}
 use Rattle.journal_core.specs.Records.{IsShort, body}
 use Rattle.journal_core.specs.declared.format.TheConstants.{OPEN}
 use Rattle.journal_core.specs.declared.header.Header.{Header}

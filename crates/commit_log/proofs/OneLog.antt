@@ -4,7 +4,7 @@ use Rattle.std.proofs.lemmas.List.{take_at, drop_at}
 use Rattle.std.proofs.lemmas.Nat.{from_le_bytes-to_le_bytes_4}
 use Rattle.std.specs.Int.{to_le_bytes, from_le_bytes, w32}
 use Rattle.std.specs.List.{AllByRecursion}
-use Rattle.journal_core.specs.RecordLaws.{GoesOn, NoRecord, same_body, one_list, not_both, text_opens, compare, broken_none, shut_none}
+use Rattle.journal_core.proofs.RecordLaws.{GoesOn, NoRecord, same_body, one_list, not_both, text_opens, compare, broken_none, shut_none}
 use Rattle.journal_core.specs.Records.{IsShort, Breaks, body, prefix}
 use Rattle.journal_core.specs.declared.format.TheConstants.{OPEN}
 use Rattle.commit_log.specs.Change.{Change, registered, revised, withdrawn, format_byte, written, IsInRange, IsNoChange}

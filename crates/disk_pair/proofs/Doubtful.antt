@@ -47,7 +47,8 @@ module _ {D : Type 0} (model : DiskModel D) (read : (d : D) (l : List ℕ) → m
         let some = (has.1 l told).some in
         let image = read (disk_of pair.other) k it in
         let beside = subst (λ (f : Option History). Beside model pair.second g f s.copy pair.other) finish st.other in
-        let loses = no_copy pair.second g k (other_shows model pair.second g None s.copy pair.other beside k it k image) in
+        let loses = no_copy pair.second g k
+        (other_shows model pair.second g None s.copy pair.other beside k it k image) in
         let opens = opens_as (with_commit s.now p) st.front st.is_front some.0 some.2 in
         (some.0, k, some.1, image, reads_current pair.second (with_commit s.now p) some.0 k opens loses))
 

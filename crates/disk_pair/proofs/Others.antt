@@ -3,7 +3,7 @@ use Rattle.std.proofs.Common.{◌≡◌, ◌⊎◌, inl, inr, ◌∷◌, ◌++�
 use Rattle.disk_edge.specs.Disk.{DiskModel, IfTold}
 use Rattle.journal_core.proofs.FrontLaws.{begins_open}
 use Rattle.journal_core.specs.Fronts.{IsOpen, IsShut}
-use Rattle.journal_core.specs.RecordLaws.{all_short}
+use Rattle.journal_core.proofs.RecordLaws.{all_short}
 use Rattle.journal_core.specs.Records.{IsShort}
 use Rattle.compact_core.specs.Carrying.{Carrying}
 use Rattle.compact_core.specs.Copies.{Copies}

@@ -46,7 +46,8 @@ module _ {D : Type 0} where
   -- a pass that gave a number has the pins that it had
   pub gives-no-pin : (p q : HallPass D) → known q ≡ giving (known p) → SameHeld (HoldsPin p) (HoldsPin q)
   gives-no-pin p q is slot version =
-      let origin : (known q).origin ≡ (known p).origin = ap (λ (v : Known (store.Kept D) Step (Origin D)). v.origin) is in
+      let origin : (known q).origin ≡ (known p).origin =
+      ap (λ (v : Known (store.Kept D) Step (Origin D)). v.origin) is in
       let numbers : (known q).numbers ≡ (known p).numbers =
       ap (λ (v : Known (store.Kept D) Step (Origin D)). v.numbers) is in
       let seen : (known q).seen ≡ (known p).seen = ap (λ (v : Known (store.Kept D) Step (Origin D)). v.seen) is in (

@@ -29,7 +29,8 @@ use Rattle.hall.proofs.Numbers.{no-calls}
 use Rattle.hall.proofs.Pins.{held-before, took-one}
 use Rattle.hall.proofs.Runs.{call_of, calm-parts, run-parts}
 
-pub calls-append : (mine : ℕ → Bool) (xs ys : List Step) → calls_of mine (xs ++ ys) ≡ calls_of mine xs ++ calls_of mine ys
+pub calls-append : (mine : ℕ → Bool) (xs ys : List Step) → calls_of mine (xs ++ ys) ≡ calls_of mine xs
+    ++ calls_of mine ys
 calls-append mine [] ys = refl
 calls-append mine (x ∷ xs) ys = chosen (is_call x.event && mine x.owner) (call_of x) (calls_of mine xs)
     (calls_of mine ys) (calls_of mine (xs ++ ys)) (calls-append mine xs ys)
@@ -310,7 +311,8 @@ module _ {D : Type 0} (model : DiskModel D) where
 
 module _ {D : Type 0} (model : DiskModel D) where
   -- the same, by what the pass is equal to
-  pub ended-as : PinsStay → (h : Hall D) (p q : HallPass D) (n : Pass (Kept D) Step (Origin D)) (v w : Kept D) (count : ℕ)
+  pub ended-as : PinsStay → (h : Hall D) (p q : HallPass D) (n : Pass (Kept D) Step (Origin D)) (v w : Kept D)
+      (count : ℕ)
       (calls : TheCalls) (answer : Bool) → IsOf h p → IsOf h q → gate.InTurn h.gate n count
       → gate.Sees (KeptFor model) by p.pass v n → (r : Pass (Kept D) Step (Origin D))
       → gate.Added (KeptFor model) Tells by n w r → r ≡ q.pass → told_of w ≡ calls → answer ≡ false

@@ -1,6 +1,6 @@
 //! A desk of a hall: a service whose calls are turns of its pass.
 ghost use Rattle.std.specs.Prelude.{◌≡◌};
-ghost use Rattle.turn_gate.specs.Ids.{IsOf-prop};
+ghost use Rattle.turn_gate.proofs.Ids.{IsOf-prop};
 ghost use Rattle.hall.specs.Passes.{IsOf};
 
 use crate::hall::{Hall, HallPass};

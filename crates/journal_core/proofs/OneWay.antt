@@ -5,7 +5,7 @@ use Rattle.std.proofs.lemmas.Nat.{from_le_bytes-to_le_bytes_4}
 use Rattle.std.specs.List.{AllByRecursion}
 use Rattle.journal_core.specs.Fronts.{IsFront, IsHeader, base_records, behind_gate, first_format, front_of, number_at, second_format}
 use Rattle.journal_core.proofs.FrontLaws.{formats_differ}
-use Rattle.journal_core.specs.RecordLaws.{one_list, same_body}
+use Rattle.journal_core.proofs.RecordLaws.{one_list, same_body}
 use Rattle.journal_core.specs.Records.{IsShort, Opens, body, prefix, records}
 use Rattle.journal_core.specs.declared.format.TheConstants.{OPEN}
 use Rattle.journal_core.specs.declared.header.Header.{Header}

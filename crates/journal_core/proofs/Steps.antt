@@ -4,7 +4,7 @@ use Rattle.disk_edge.specs.Disk.{written, Torn, Exactly, Tears, Becomes, IfTold}
 use Rattle.disk_edge.specs.TornLaws.{torn_written}
 use Rattle.journal_core.specs.Records.{IsShort, body, prefix, Opens, Staged}
 use Rattle.journal_core.proofs.Told.{becomes_told}
-use Rattle.journal_core.specs.RecordLaws.{opened}
+use Rattle.journal_core.proofs.RecordLaws.{opened}
 use Rattle.journal_core.proofs.Crash.{torn_behind, written_behind, torn_gate, written_gate}
 
 -- the payload stands behind the gate, all of it on the disk

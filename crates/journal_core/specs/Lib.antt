@@ -3,8 +3,6 @@ pub mod Found
 pub mod Fronts
 pub mod Inside
 pub mod Journal
-pub mod LookLaws
 pub mod Looks
-pub mod RecordLaws
 pub mod Records
 pub mod Standing

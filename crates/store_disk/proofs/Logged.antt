@@ -13,7 +13,7 @@ use Rattle.commit_log.specs.declared.base.BaseEntry.{BaseEntry}
 use Rattle.commit_log.specs.declared.change.Commit.{Commit}
 use Rattle.journal_core.proofs.FrontLaws.{front_push}
 use Rattle.journal_core.specs.Fronts.{BeginsAt, front_of}
-use Rattle.journal_core.specs.RecordLaws.{length-prefix_push}
+use Rattle.journal_core.proofs.RecordLaws.{length-prefix_push}
 use Rattle.journal_core.specs.Records.{body, prefix}
 use Rattle.journal_core.specs.declared.format.TheConstants.{LONGEST_PAYLOAD}
 use Rattle.journal_core.specs.declared.header.Header.{Header}

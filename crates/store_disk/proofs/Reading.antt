@@ -7,7 +7,7 @@ use Rattle.commit_log.specs.Log.{DamagesLog, IsLogged, Takes, Unread, changes_of
 use Rattle.commit_log.specs.declared.change.Commit.{Commit}
 use Rattle.disk_edge.specs.Disk.{DiskModel, IfTold}
 use Rattle.journal_core.specs.Journal.{Reads, Rests}
-use Rattle.journal_core.specs.LookLaws.{looks_twice}
+use Rattle.journal_core.proofs.LookLaws.{looks_twice}
 use Rattle.journal_core.specs.Looks.{Looks}
 use Rattle.journal_core.specs.Records.{Breaks, prefix}
 use Rattle.journal_core.specs.Standing.{Standing}

@@ -6,7 +6,7 @@ use Rattle.disk_pair.specs.Pairs.{Picks}
 use Rattle.disk_pair.specs.Stands.{OtherHas, StandsFor as StandsOnDisks}
 use Rattle.disk_pair.specs.Term.{Paired, disk_a, disk_b, first_of}
 use Rattle.disk_pair.specs.declared.other.Other.TheVariants.{Idle}
-use Rattle.journal_core.specs.LookLaws.{narrows_twice}
+use Rattle.journal_core.proofs.LookLaws.{narrows_twice}
 use Rattle.journal_core.specs.Looks.{Looks, Narrows}
 use Rattle.journal_core.specs.Standing.{Standing}
 use Rattle.store_core.specs.Stored.{StoreTerm as Memory}

@@ -1,4 +1,5 @@
 -- The lemmas on the rule and its steps, lowest first.
+pub mod Ids
 pub mod Lists
 pub mod Seats
 pub mod Keeps

@@ -4,5 +4,4 @@ pub mod Numbers
 pub mod Rules
 pub mod Steps
 pub mod Passes
-pub mod Ids
 pub mod Turns

@@ -34,7 +34,8 @@ returns-in-Ok-served g c = λ disks read_a read_b.
     c.serve_ends-ends.result.0.items =
     subst (λ x. OnOk x (Serving g.S.Source g.K.Sink c.settings.result c.in-Ok.pass new c.args.ends.items
     c.serve_ends-ends.result.0.items)) c.in-Ok-served.is c.serve_ends-ends.ensures.served in
-    let serving : Serving g.S.Source g.K.Sink (settings_of c.args.plan.now) c.in-Ok.pass new c.args.ends.items r.ends.items =
+    let serving : Serving g.S.Source g.K.Sink (settings_of c.args.plan.now) c.in-Ok.pass new c.args.ends.items
+    r.ends.items =
     subst (λ v. Serving g.S.Source g.K.Sink (settings_of c.args.plan.now) c.in-Ok.pass new c.args.ends.items v.items)
     (sym c.served.ensures.ends)
     (subst (λ (settings : Settings). Serving g.S.Source g.K.Sink settings c.in-Ok.pass new c.args.ends.items
@@ -53,7 +54,8 @@ returns-in-Ok-served g c = λ disks read_a read_b.
     (λ i d less. (_, serving.each i d less)) in
     served_done g.D.Disk.model g.S.Source.left g.S.Source.faults g.K.Sink.written g.K.Sink.faults c.args.plan.now Serve
     disks c.args.ends.items r c.requires.verb
-    (inr (subst (λ x. ServesOn d g.S.Source.left g.K.Sink.written c.args.plan.now disks x c.args.ends.items r.ends.items)
+    (inr (subst (λ x. ServesOn d g.S.Source.left g.K.Sink.written c.args.plan.now disks x c.args.ends.items
+    r.ends.items)
     (sym c.served.ensures.disks) on)) causes.0 causes.1
     c.served.ensures.status c.served.ensures.place
 

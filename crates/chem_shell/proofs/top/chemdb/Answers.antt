@@ -56,17 +56,20 @@ returns-in-Err-NoMemory-clause-end_causes g c =
 pub returns-in-Err-NoMemory-clause-overall : goal.returns-in-Err-NoMemory-clause-overall
 returns-in-Err-NoMemory-clause-overall g c = λ asks some.
     c.unserved-in-Err-NoMemory.ensures.status
-    ∙ sym (first_of_alike c.args.ends.items c.unserved-in-Err-NoMemory.result.ends.items 8 some c.unserved-in-Err-NoMemory.ensures.ends)
+    ∙ sym (first_of_alike c.args.ends.items c.unserved-in-Err-NoMemory.result.ends.items 8 some
+    c.unserved-in-Err-NoMemory.ensures.ends)
 
 pub returns-in-Err-NoMemory-clause-mem : goal.returns-in-Err-NoMemory-clause-mem
 returns-in-Err-NoMemory-clause-mem g c = λ plan asks verb. (
   c.unserved-in-Err-NoMemory.ensures.disks,
-  zip_mapped _ (with_status 8) (λ e. mem_unmoved plan g.S.Source.left g.K.Sink.written e) _ _ c.unserved-in-Err-NoMemory.ensures.ends,
+  zip_mapped _ (with_status 8) (λ e. mem_unmoved plan g.S.Source.left g.K.Sink.written e) _ _
+      c.unserved-in-Err-NoMemory.ensures.ends,
 )
 
 pub returns-in-Err-NoMemory-clause-init : goal.returns-in-Err-NoMemory-clause-init
 returns-in-Err-NoMemory-clause-init g c = λ plan asks verb. (
-  none_mapped (with_status 8) _ _ (no_ends c.args.ends.items _ plan asks verb c.requires.ends) c.unserved-in-Err-NoMemory.ensures.ends,
+  none_mapped (with_status 8) _ _ (no_ends c.args.ends.items _ plan asks verb c.requires.ends)
+      c.unserved-in-Err-NoMemory.ensures.ends,
   creates_nothing g.D.Disk.model (record { a = c.args.a; b = c.args.b }) (disks_of c.unserved-in-Err-NoMemory.result)
       c.unserved-in-Err-NoMemory.result.status c.unserved-in-Err-NoMemory.ensures.status
       c.unserved-in-Err-NoMemory.ensures.disks c.unserved-in-Err-NoMemory.ensures.read_b,

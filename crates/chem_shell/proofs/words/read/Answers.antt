@@ -25,7 +25,8 @@ returns-in-Some-mem-clause-err c =
     let command = sym (first_value-rows (found_of c.in_ok-found.found) (codes "command")) ∙ sym c.get_str.ensures
     ∙ word in
     IfErr-weaker c.in_memory.result _ _
-    (λ fault none. inr (asks_not Mem (texts c.args.words.now) (rows_of (found_of c.in_ok-found.found)) found.1 command none))
+    (λ fault none. inr (asks_not Mem (texts c.args.words.now)
+    (rows_of (found_of c.in_ok-found.found)) found.1 command none))
     c.in_memory.ensures.err
 
 pub returns-in-Some-init-clause-ok : goal.returns-in-Some-init-clause-ok
@@ -46,7 +47,8 @@ returns-in-Some-init-clause-err c =
     let command = sym (first_value-rows (found_of c.in_ok-found.found) (codes "command")) ∙ sym c.get_str.ensures
     ∙ word in
     IfErr-weaker c.init.result _ _
-    (λ fault none. inr (asks_not Init (texts c.args.words.now) (rows_of (found_of c.in_ok-found.found)) found.1 command none))
+    (λ fault none. inr (asks_not Init (texts c.args.words.now)
+    (rows_of (found_of c.in_ok-found.found)) found.1 command none))
     c.init.ensures.err
 
 pub returns-in-Some-run-clause-ok : goal.returns-in-Some-run-clause-ok
@@ -67,7 +69,8 @@ returns-in-Some-run-clause-err c =
     let command = sym (first_value-rows (found_of c.in_ok-found.found) (codes "command")) ∙ sym c.get_str.ensures
     ∙ word in
     IfErr-weaker c.run.result _ _
-    (λ fault none. inr (asks_not Run (texts c.args.words.now) (rows_of (found_of c.in_ok-found.found)) found.1 command none))
+    (λ fault none. inr (asks_not Run (texts c.args.words.now)
+    (rows_of (found_of c.in_ok-found.found)) found.1 command none))
     c.run.ensures.err
 
 pub returns-in-Some-serve-clause-ok : goal.returns-in-Some-serve-clause-ok
@@ -90,8 +93,8 @@ returns-in-Some-serve-clause-err c =
     IfErr-weaker c.serve.result _ _
     (λ fault none. elim none [
       | inl memory ↦ inl memory
-      | inr refused ↦ inr (asks_not Serve (texts c.args.words.now) (rows_of (found_of c.in_ok-found.found)) found.1 command
-          refused)
+      | inr refused ↦ inr (asks_not Serve (texts c.args.words.now)
+          (rows_of (found_of c.in_ok-found.found)) found.1 command refused)
     ])
     c.serve.ensures.err
 
@@ -113,7 +116,8 @@ returns-in-Some-bulk-clause-err c =
     let command = sym (first_value-rows (found_of c.in_ok-found.found) (codes "command")) ∙ sym c.get_str.ensures
     ∙ word in
     IfErr-weaker c.bulk.result _ _
-    (λ fault none. inr (asks_not Bulk (texts c.args.words.now) (rows_of (found_of c.in_ok-found.found)) found.1 command none))
+    (λ fault none. inr (asks_not Bulk (texts c.args.words.now)
+    (rows_of (found_of c.in_ok-found.found)) found.1 command none))
     c.bulk.ensures.err
 
 pub returns-in-Some-drill-clause-ok : goal.returns-in-Some-drill-clause-ok

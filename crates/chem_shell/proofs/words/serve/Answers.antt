@@ -12,7 +12,8 @@ returns-clause-ok c =
       args = record {
         word = c.in_ok-file.file.now;
         words = texts c.in_ok-file.words.now;
-        are = subst (λ (a : Option (List Text)). AreFileAndScripts a c.in_ok-file.file.now (texts c.in_ok-file.words.now))
+        are = subst (λ (a : Option (List Text)). AreFileAndScripts a c.in_ok-file.file.now
+            (texts c.in_ok-file.words.now))
             args c.in_ok-file.ensures.ok;
         file = refl;
         scripts = search rules;

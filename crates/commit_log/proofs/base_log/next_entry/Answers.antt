@@ -4,7 +4,7 @@ use Rattle.disk_edge.specs.Disk.{DiskModel}
 use Rattle.journal_core.proofs.FrontLaws.{front_push}
 use Rattle.journal_core.specs.Fronts.{front_of}
 use Rattle.journal_core.specs.Journal.{Reads}
-use Rattle.journal_core.specs.RecordLaws.{prefix_nil}
+use Rattle.journal_core.proofs.RecordLaws.{prefix_nil}
 use Rattle.journal_core.specs.Records.{IsShort, body}
 use Rattle.journal_core.specs.Standing.{Standing}
 use Rattle.journal_core.specs.declared.header.Header.{Header}

@@ -3,7 +3,7 @@ use Rattle.std.proofs.lemmas.List.{length-map}
 use Rattle.std.specs.declared.alloc.Global.{Global}
 use Rattle.journal_core.specs.Fronts.{BreaksBase, front_of}
 use Rattle.journal_core.specs.Journal.{Reads}
-use Rattle.journal_core.specs.LookLaws.{looks_twice}
+use Rattle.journal_core.proofs.LookLaws.{looks_twice}
 use Rattle.journal_core.specs.declared.header.Header.{Header}
 use Rattle.commit_log.specs.Base.{Follows, TakesBase, UnreadBase, base_payloads, entries_of, last_id}
 use Rattle.commit_log.specs.Entry.{Entry, entry_of, written}

@@ -2,7 +2,7 @@ use Rattle.std.proofs.Common.{◌≡◌, ◌+◌, inr, List, [], ◌∷◌, ◌+
 use Rattle.disk_edge.specs.Disk.{DiskModel}
 use Rattle.journal_core.specs.Journal.{Reads}
 use Rattle.journal_core.specs.Records.{IsShort}
-use Rattle.journal_core.specs.RecordLaws.{prefix_push}
+use Rattle.journal_core.proofs.RecordLaws.{prefix_push}
 use Rattle.journal_core.specs.Standing.{Standing}
 use Rattle.commit_log.specs.Change.{IsNoChange}
 use Rattle.commit_log.specs.declared.change.Wire.{Wire}

@@ -1,7 +1,7 @@
 use Rattle.std.proofs.Common.{Vec, ◌≡◌, ◌+◌, ℕ, List, [], ◌∷◌, ◌++◌, length, Option, sym, ◌∙◌, ap, subst, append_assoc}
 use Rattle.std.specs.declared.alloc.Global.{Global}
 use Rattle.journal_core.specs.Journal.{Reads}
-use Rattle.journal_core.specs.LookLaws.{looks_twice}
+use Rattle.journal_core.proofs.LookLaws.{looks_twice}
 use Rattle.commit_log.specs.Change.{Change, change_of, written}
 use Rattle.commit_log.specs.Log.{Takes, changes_of, payloads}
 use Rattle.commit_log.specs.declared.change.Commit.{Commit}

@@ -1,6 +1,6 @@
 use Rattle.std.proofs.Common.{Bool, None, Option, false, sym, subst, true}
 use Rattle.disk_edge.specs.Disk.{IfTold}
-use Rattle.journal_core.specs.LookLaws.{narrows_twice}
+use Rattle.journal_core.proofs.LookLaws.{narrows_twice}
 use Rattle.journal_core.specs.Looks.{Narrows}
 use Rattle.disk_pair.specs.Choices.{Chosen, IsRead}
 use Rattle.disk_pair.specs.Stands.{OtherHas}

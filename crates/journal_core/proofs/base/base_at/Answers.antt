@@ -1,7 +1,7 @@
 use Rattle.std.proofs.Common.{ℕ, Option, Vec, drop, rules, ◌∙◌, subst}
 use Rattle.std.specs.declared.alloc.Global.{Global}
 use Rattle.journal_core.specs.Found.{IsPayload}
-use Rattle.journal_core.specs.LookLaws.{looks_twice}
+use Rattle.journal_core.proofs.LookLaws.{looks_twice}
 use Rattle.journal_core.proofs.base.base_at.Goals as goal
 
 pub returns-in-Some-clause-found : goal.returns-in-Some-clause-found

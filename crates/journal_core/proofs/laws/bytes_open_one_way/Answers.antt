@@ -1,4 +1,4 @@
-use Rattle.journal_core.specs.RecordLaws.{one_list, one_break, not_both, opens_header, breaks_header}
+use Rattle.journal_core.proofs.RecordLaws.{one_list, one_break, not_both, opens_header, breaks_header}
 use Rattle.journal_core.proofs.laws.bytes_open_one_way.Goals as goal
 
 pub returns-clause-one_list : goal.returns-clause-one_list

@@ -1,5 +1,5 @@
 use Rattle.std.proofs.Common.{Result, Ok, Err, OnOk, sym, ◌∙◌}
-use Rattle.journal_core.specs.LookLaws.{still_exactly}
+use Rattle.journal_core.proofs.LookLaws.{still_exactly}
 use Rattle.journal_core.proofs.open.measured.Goals as goal
 
 always_ok : {T E : Type 0} {R : Type 0} (result : Result T E) → R → OnOk result R

@@ -1,7 +1,7 @@
 use Rattle.std.proofs.Common.{◌≡◌, take, drop, sym, ◌∙◌, arith, rules, []}
 use Rattle.journal_core.specs.Fronts.{front_of, second_format}
 use Rattle.journal_core.proofs.FrontLaws.{is_long}
-use Rattle.journal_core.specs.LookLaws.{looks_call, looks_twice}
+use Rattle.journal_core.proofs.LookLaws.{looks_call, looks_twice}
 use Rattle.journal_core.proofs.Opened.{length-front, numbers, part_of, second_shape}
 use Rattle.journal_core.proofs.open.said.Goals as goal
 

@@ -1,7 +1,7 @@
 use Rattle.std.proofs.Common.{◌++◌, [], ◌∷◌, Err, inl, inr, Option}
 use Rattle.std.proofs.lemmas.Result.{IfOk-weaker}
 use Rattle.commit_log.specs.declared.change.Commit.{Commit}
-use Rattle.journal_core.specs.LookLaws.{looks_none}
+use Rattle.journal_core.proofs.LookLaws.{looks_none}
 use Rattle.store_core.specs.declared.store.Store.{Store as Memory}
 use Rattle.store_disk.proofs.Reading.{log-damaged, looks-more, read-to, reading-more, reading-none}
 use Rattle.store_disk.proofs.Results.{on-damaged, same-fault}

@@ -4,7 +4,7 @@ use Rattle.std.specs.declared.alloc.Global.{Global}
 use Rattle.commit_log.specs.Base.{entries_of}
 use Rattle.commit_log.specs.Log.{changes_of}
 use Rattle.commit_log.specs.declared.base.BaseEntry.{BaseEntry}
-use Rattle.journal_core.specs.LookLaws.{looks_twice}
+use Rattle.journal_core.proofs.LookLaws.{looks_twice}
 use Rattle.journal_core.specs.declared.format.TheConstants.{LONGEST_PAYLOAD}
 use Rattle.journal_core.specs.declared.header.Header.{Header}
 use Rattle.store_disk.specs.Replays.{IsReplayed, LacksText, Stops}

@@ -1,4 +1,4 @@
-use Rattle.journal_core.specs.LookLaws.{narrows_none}
+use Rattle.journal_core.proofs.LookLaws.{narrows_none}
 use Rattle.chem_shell.proofs.outcome.Outcome.unserved.Goals as goal
 
 pub returns-clause-read_a : goal.returns-clause-read_a

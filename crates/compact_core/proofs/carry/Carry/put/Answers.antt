@@ -1,6 +1,6 @@
 use Rattle.std.proofs.Common.{◌∷◌, List, ℕ, [], sym, subst, arith, length-append}
 use Rattle.journal_core.specs.Fronts.{IsOpen}
-use Rattle.journal_core.specs.RecordLaws.{all_short}
+use Rattle.journal_core.proofs.RecordLaws.{all_short}
 use Rattle.journal_core.specs.Records.{body}
 use Rattle.journal_core.specs.declared.header.Header.{Header}
 use Rattle.compact_core.specs.Carrying.{Carrying}

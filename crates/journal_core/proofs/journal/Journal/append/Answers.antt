@@ -4,7 +4,7 @@ use Rattle.disk_edge.specs.Moments.{two_calls}
 use Rattle.journal_core.specs.Journal.{Rests}
 use Rattle.journal_core.specs.Records.{Opens, BeforeOrAfter}
 use Rattle.journal_core.specs.Standing.{Standing}
-use Rattle.journal_core.specs.RecordLaws.{never_both, before_or_after, length-prefix_push}
+use Rattle.journal_core.proofs.RecordLaws.{never_both, before_or_after, length-prefix_push}
 use Rattle.journal_core.proofs.Results.{at_failed, at_no_memory}
 use Rattle.journal_core.proofs.Steps.{behind, stage_done, stage_torn, written_open, stage_open}
 use Rattle.journal_core.proofs.Told.{becomes_told, becomes_untold, tears_told, tears_untold, done_tears, keeps_gate}

@@ -5,8 +5,8 @@ use Rattle.journal_core.specs.Journal.{Reads}
 use Rattle.journal_core.specs.Records.{IsBroken, prefix}
 use Rattle.journal_core.specs.Standing.{Standing}
 use Rattle.journal_core.specs.declared.record.Found.{Found}
-use Rattle.journal_core.specs.LookLaws.{still_exactly}
-use Rattle.journal_core.specs.RecordLaws.{prefix_push, length-prefix_push, all_short}
+use Rattle.journal_core.proofs.LookLaws.{still_exactly}
+use Rattle.journal_core.proofs.RecordLaws.{prefix_push, length-prefix_push, all_short}
 use Rattle.journal_core.proofs.Told.{some_is}
 use Rattle.journal_core.proofs.journal.Journal.next.Goals as goal
 

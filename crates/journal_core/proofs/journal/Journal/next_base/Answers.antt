@@ -4,8 +4,8 @@ use Rattle.std.specs.Int.{to_le_bytes, w32}
 use Rattle.journal_core.specs.Found.{IsBase}
 use Rattle.journal_core.specs.Fronts.{IsNoBase, front_of}
 use Rattle.journal_core.specs.Journal.{Reads}
-use Rattle.journal_core.specs.LookLaws.{still_exactly}
-use Rattle.journal_core.specs.RecordLaws.{prefix_nil}
+use Rattle.journal_core.proofs.LookLaws.{still_exactly}
+use Rattle.journal_core.proofs.RecordLaws.{prefix_nil}
 use Rattle.journal_core.specs.Records.{body}
 use Rattle.journal_core.specs.declared.header.Header.{Header}
 use Rattle.journal_core.specs.Standing.{Standing}

@@ -4,7 +4,7 @@ use Rattle.disk_edge.specs.TornLaws.{torn_same}
 use Rattle.journal_core.specs.Journal.{Doubts}
 use Rattle.journal_core.specs.Records.{Opens, BeforeOrAfter}
 use Rattle.journal_core.specs.Standing.{Standing}
-use Rattle.journal_core.specs.RecordLaws.{never_both, before_or_after}
+use Rattle.journal_core.proofs.RecordLaws.{never_both, before_or_after}
 use Rattle.journal_core.proofs.Results.{at_failed, at_no_memory}
 use Rattle.journal_core.proofs.Steps.{gate, written_closed}
 use Rattle.journal_core.proofs.Told.{becomes_told, becomes_untold, tears_told, tears_untold}

@@ -1,5 +1,5 @@
 use Rattle.std.proofs.Common.{inl, inr, ◌<◌, ◌+◌, ◌^◌, drop, ◌∙◌, arith}
-use Rattle.journal_core.specs.LookLaws.{looks_twice}
+use Rattle.journal_core.proofs.LookLaws.{looks_twice}
 use Rattle.journal_core.proofs.Tail.{no_length, no_payload, whole}
 use Rattle.journal_core.proofs.window.Window.payload_at.Goals as goal
 use Rattle.journal_core.proofs.window.Window.payload_at.Goals.{then-len-at-via-then-len-at, then-len-at-via-else-len-at+then-len-at-lt4, then-size-gt-LONGEST_PAYLOAD-via-then-size-gt-LONGEST_PAYLOAD, then-size-gt-LONGEST_PAYLOAD-via-else-size-gt-LONGEST_PAYLOAD+then-len-at-2}
