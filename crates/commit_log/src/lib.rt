@@ -18,4 +18,7 @@ pub use change::{Commit, Format, Wire};
 pub use laws::{a_base_reads_one_way, a_log_reads_one_way, a_written_log_is_read};
 pub use log::{next_commit, read_all};
 pub use reading::{decode, decode_base};
-pub use writing::{encode, encode_base, encode_register, encode_revise, encode_withdraw};
+pub use writing::{
+    encode, encode_base, encode_register, encode_revise, encode_withdraw, write_live,
+    write_withdrawn,
+};

@@ -1,6 +1,6 @@
 //! A change is written, and an entry of a base.
 
-ghost use Rattle.std.specs.Prelude.{◌≡◌, ◌∷◌, ◌++◌, IfOk};
+ghost use Rattle.std.specs.Prelude.{◌≡◌, ◌∷◌, ◌++◌, IfOk, OnOk};
 ghost use Rattle.std.specs.Int.{to_le_bytes, w32};
 ghost use Rattle.commit_log.specs.Entry as base;
 ghost use Rattle.commit_log.specs.Entry.{entry_of, live, tail};
@@ -56,30 +56,56 @@ pub fn encode_withdraw(alloc: Global, id: u32) -> Result<Vec<u8>, AllocError>
 pub fn encode_base(alloc: Global, entry: &BaseEntry) -> Result<Vec<u8>, AllocError>
     ensures { IfOk result (λ payload. payload.items ≡ base.written (entry_of entry.now)) }
 {
+    let mut payload = Vec::new(alloc);
     match &entry.state {
-        BaseState::Live { format, text } => {
-            let mut payload = with_version(alloc, LIVE, entry, text.len())?;
-            payload.push(byte_of(*format))?;
-            payload.extend_from_slice(text)?;
-            Ok(payload)
-        }
-        BaseState::Withdrawn => with_version(alloc, WITHDRAWN, entry, 0),
+        BaseState::Live { format, text } => write_live(
+            &mut payload,
+            entry.id,
+            entry.version,
+            *format,
+            text,
+        )?,
+        BaseState::Withdrawn => write_withdrawn(&mut payload, entry.id, entry.version)?,
     }
+    Ok(payload)
 }
 
-// A kind, and the identifier and the version of an entry, with room for a text.
-fn with_version(
-    alloc: Global,
-    kind: u8,
-    entry: &BaseEntry,
-    room: usize,
-) -> Result<Vec<u8>, AllocError>
-    ensures { IfOk result (λ v. v.items
-        ≡ kind ∷ (to_le_bytes w32 entry.now.id ++ to_le_bytes w32 entry.now.version)) }
+/// Writes the payload of a live entry of a base in place of what the buffer has. Its memory is kept, and more is taken
+/// if that is too little.
+pub fn write_live(
+    payload: &mut Vec<u8>,
+    id: u32,
+    version: u32,
+    format: Format,
+    text: &[u8],
+) -> Result<(), AllocError>
+    ensures { OnOk result (payload.new.items
+        ≡ base.written (record { id = id; version = version; state = live format text.now })) }
 {
-    let mut payload = with_id(alloc, kind, entry.id, room.saturating_add(4))?;
-    payload.extend_from_slice(&entry.version.to_le_bytes())?;
-    Ok(payload)
+    payload.clear();
+    payload.reserve(text.len().saturating_add(10))?;
+    begin(payload, LIVE, id, version)?;
+    payload.push(byte_of(format))?;
+    payload.extend_from_slice(text)
+}
+
+/// As `write_live`, but of an entry whose identifier was withdrawn.
+pub fn write_withdrawn(payload: &mut Vec<u8>, id: u32, version: u32) -> Result<(), AllocError>
+    ensures { OnOk result (payload.new.items
+        ≡ base.written (record { id = id; version = version; state = base.withdrawn })) }
+{
+    payload.clear();
+    begin(payload, WITHDRAWN, id, version)
+}
+
+// Appends the kind of an entry, its identifier and its version.
+fn begin(payload: &mut Vec<u8>, kind: u8, id: u32, version: u32) -> Result<(), AllocError>
+    ensures { OnOk result (payload.new.items
+        ≡ payload.old.items ++ kind ∷ (to_le_bytes w32 id ++ to_le_bytes w32 version)) }
+{
+    payload.push(kind)?;
+    payload.extend_from_slice(&id.to_le_bytes())?;
+    payload.extend_from_slice(&version.to_le_bytes())
 }
 
 // A kind, an identifier, a format and a text.

@@ -1,4 +1,5 @@
 pub mod Ahead
 pub mod Listed
 pub mod Order
+pub mod Passing
 pub mod Walk

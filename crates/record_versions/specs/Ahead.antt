@@ -1,4 +1,4 @@
--- For private clauses alone: chains that a finder has ahead.
+-- For private clauses, and for readings: chains that are ahead of a walk.
 use Rattle.std.specs.Prelude.{◌≡◌, ◌+◌, ◌≤◌, List, [], ◌∷◌, ℕ}
 use Rattle.record_versions.specs.Entries.{chain_of}
 use Rattle.record_versions.specs.Rows.{Row}

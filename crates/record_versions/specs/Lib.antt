@@ -1,4 +1,5 @@
 pub mod Ahead
 pub mod Entries
 pub mod Forms
+pub mod Readings
 pub mod Rows

@@ -2,9 +2,11 @@
 ghost use Rattle.std.specs.Prelude.{◌≡◌, ◌==◌, ◌≢◌, ◌+◌, ◌++◌, ◌<◌, ◌≤◌, ℕ, [], ◌∷◌, All, Contains, MatchOption, None, OnOk, Some, filter, if◌then◌else◌, length};
 ghost use Rattle.std.specs.List.{AllPairs};
 ghost use Rattle.record_versions.specs.Entries.{IsLatest, IsLeastDead, IsLeastId, IsReserved, chain_of, entries, is_other};
+ghost use Rattle.record_versions.specs.Readings.{IsAhead};
 
 use crate::chain::Chain;
 use crate::finder::Finder;
+use crate::readings::Readings;
 use crate::steps::Steps;
 use std::alloc::{AllocError, Global};
 use std::collections::BTreeMap;
@@ -97,6 +99,14 @@ impl<V: Drop> Chains<V> {
         ensures { result ≡ self.now }
     {
         Finder::begin(&self.chains, id)
+    }
+
+    /// The identifiers from `from` on that have an entry at a version, each with its latest one. It takes no memory.
+    pub fn readings(&self, from: u32, version: u32) -> Readings<'_, V>
+        ensures ahead { IsAhead from self.now result.ahead }
+        ensures version { result.version ≡ version }
+    {
+        Readings::begin(self.chains.range(from..), version)
     }
 
     /// The identifier and the version of the least entry that is not the latest of its identifier at any version of

@@ -9,10 +9,12 @@ mod chains;
 mod counted;
 mod entries;
 mod finder;
+mod readings;
 mod ring;
 mod steps;
 
 pub use chains::Chains;
 pub use counted::Counted;
 pub use finder::Finder;
+pub use readings::Readings;
 pub use steps::Steps;

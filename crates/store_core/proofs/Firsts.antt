@@ -1,17 +1,20 @@
 -- The first entry of a snapshot at or after an identifier.
-use Rattle.std.proofs.Common.{◌≡◌, ◌≢◌, ◌+◌, ◌<◌, ◌≤◌, ◌∙◌, All, ap, arith, cond, Contains, false, inl, inr, List, [], ◌∷◌, nat_cmp, None, refl, Some, subst, sym, T, true, ℕ}
+use Rattle.std.proofs.Common.{◌≡◌, ◌≢◌, ◌+◌, ◌<◌, ◌≤◌, ◌∙◌, All, ap, arith, cond, Contains, false, IfSome, inl, inr, List, [], ◌∷◌, MatchOption, nat_cmp, None, Option, refl, Some, subst, sym, T, true, ℕ}
 use Rattle.std.proofs.lemmas.Bool.{cases_lt}
 use Rattle.std.proofs.lemmas.List.Elements.{All-cons, All-nil}
+use Rattle.std.specs.Borrow.{Bor}
 use Rattle.std.specs.FinMap.{entries, entries_sorted, get, get-entries}
 use Rattle.std.specs.FinMap.Entries.{below_all, find, is_sorted}
 use Rattle.std.specs.Ordering.{eq_by_cmp}
-use Rattle.record_versions.specs.Entries.{IsLatest, IsLeastId, chain_of}
+use Rattle.record_versions.specs.Entries.{IsLatest, chain_of}
+use Rattle.record_versions.specs.Readings.{IsFirstAt}
 use Rattle.store_machine.specs.History.{IsId, Snapshot, snapshot}
 use Rattle.store_machine.specs.Laws.{KeptIsRead, StatesStay}
 use Rattle.store_machine.specs.declared.machine.State.{State}
 use Rattle.store_machine.specs.declared.machine.Status.{Status}
 use Rattle.store_core.specs.Copied.{FirstFrom, IsFirstFrom, KeepsVersion}
-use Rattle.store_core.specs.Kept.{Chains, Kept, status_of}
+use Rattle.store_core.specs.Kept.{Chains, Kept, first_of, status_of}
+use Rattle.store_core.specs.Records.{Shared}
 use Rattle.store_core.specs.Stored.{Served, StandsFor, StoreTerm, served}
 use Rattle.store_core.proofs.Counts.{both-hold, find-below, less-of}
 use Rattle.store_core.proofs.Sees.{same-state, sees}
@@ -105,33 +108,13 @@ Lacks states from to = (q : ℕ) → from ≤ q → q < to → get states q ≡ 
 none-found : (states : Snapshot) (from to : ℕ) → Lacks states from to → NoneFrom from to (entries states)
 none-found states from to lacks q late less = sym (get-entries states q) ∙ lacks q late less
 
--- the identifiers from one on, before another, have no entry that is not after a version
-abbrev pub Passed : ℕ → Chains → ℕ → ℕ → Type 0
-Passed version chains from place = (id : ℕ) → from ≤ id → id < place → IsLatest version (chain_of chains id) None
-
-none-later : (version : ℕ) (ks : List Kept) → ks ≡ [] → IsLatest version ks None
-none-later version ks e = subst (λ l. IsLatest version l None) (sym e) (All-nil _)
-
--- up to the next that has an entry
-passed-to : (version : ℕ) (chains : Chains) (from place next : ℕ) → Passed version chains from place
-    → ((id : ℕ) → place ≤ id → id < next → chain_of chains id ≡ []) → Passed version chains from next
-passed-to version chains from place next passed none id late less =
-    elim (cases_lt id place) [
-      | inl lt ↦ passed id late lt
-      | inr ge ↦ none-later version (chain_of chains id) (none id ge less)
-    ]
-
--- and this one too
-pub passed-one : (version : ℕ) (chains : Chains) (from place next : ℕ) → Passed version chains from place
-    → IsLeastId place chains (Some next) → IsLatest version (chain_of chains next) None
-    → Passed version chains from (next + 1)
-passed-one version chains from place next passed least latest id late less =
-    elim (cases_lt id next) [
-      | inl lt ↦ passed-to version chains from place next passed least.2 id late lt
-      | inr ge ↦
-          let same : id ≡ next = omega (arith, ge, less) in
-          subst (λ n. IsLatest version (chain_of chains n) None) (sym same) latest
-    ]
+-- what was read of chains is the first that they have at the version
+pub first-is : (version from : ℕ) (chains : Chains) (Y : ℕ × ℕ × Bor (Option Shared) → Type 0)
+    (r : Option (ℕ × ℕ × Bor (Option Shared))) → MatchOption r (IsFirstAt version from chains None)
+    (λ x. IsFirstAt version from chains (Some (x.0, record { version = x.1; value = x.2.now })) × Y x)
+    → IsFirstAt version from chains (first_of r)
+first-is version from chains Y None h = h
+first-is version from chains Y (Some x) h = h.0
 
 -- an identifier that has an entry is in range
 pub in-range : StatesStay → (store : StoreTerm) (s : Served) (id : ℕ) → StandsFor store s
@@ -143,26 +126,34 @@ in-range stay store s id h some = go (chain_of store.kept.chains id) refl
     go (k ∷ ks) e = (stay s.history k.version id (status_of k) h.sound.history
         ((h.chains id).states k (subst (λ l. Contains l k) (sym e) (contains-here k k ks refl)))).0
 
-module _ (read : KeptIsRead) (stay : StatesStay) (store : StoreTerm) (version from place : ℕ)
-    (passed : Passed version store.kept.chains from place) (s : State) (h : StandsFor store (served s))
-    (keeps : KeepsVersion s version) where
-  lacks : (to : ℕ) → Passed version store.kept.chains from to → Lacks (snapshot s.history version) from to
+-- and those behind it are ahead
+pub then-ahead : {X : Type 0} (A : Type 0) (B Y : X → Type 0) (r : Option X) → MatchOption r A (λ x. B x × Y x)
+    → IfSome r Y
+then-ahead A B Y None h = tt
+then-ahead A B Y (Some x) h = h.1
+
+-- an identifier that has an entry at a version has one
+pub has-one : (version id : ℕ) (chains : Chains) (k : Kept) → IsLatest version (chain_of chains id) (Some k)
+    → chain_of chains id ≢ []
+has-one version id chains k latest e = let c = (subst (λ ks. Contains ks k) e latest.0).1 in omega (arith, c)
+
+module _ (read : KeptIsRead) (stay : StatesStay) (store : StoreTerm) (version from : ℕ) (s : State)
+    (h : StandsFor store (served s)) (keeps : KeepsVersion s version) where
+  lacks : (to : ℕ) → ((id : ℕ) → from ≤ id → id < to → IsLatest version (chain_of store.kept.chains id) None)
+      → Lacks (snapshot s.history version) from to
   lacks to none q late less = sees read store s version q h keeps stay None (none q late less)
 
-  pub none-first : IsLeastId place store.kept.chains None
+  pub none-first : IsFirstAt version from store.kept.chains None
       → IsFirstFrom from (entries (snapshot s.history version)) None
   none-first none =
       let states = snapshot s.history version in
-      all-below from (entries states) (λ to. none-found states from to (lacks to
-      (passed-to version store.kept.chains from place to passed (λ id late less. none id late))))
+      all-below from (entries states)
+      (λ to. none-found states from to (lacks to (λ id late less. none id late)))
 
-  pub one-first : (id : ℕ) (k : Kept) → from ≤ place → IsLeastId place store.kept.chains (Some id)
-      → IsLatest version (chain_of store.kept.chains id) (Some k)
+  pub one-first : (id : ℕ) (k : Kept) → IsFirstAt version from store.kept.chains (Some (id, k))
       → IsFirstFrom from (entries (snapshot s.history version)) (Some (id, status_of k))
-  one-first id k later least latest =
+  one-first id k first =
       let states = snapshot s.history version in
-      first-of from id (status_of k) (entries states) (entries_sorted states)
-      (let up = least.0 in omega (arith, later, up))
-      (sym (get-entries states id) ∙ sees read store s version id h keeps stay (Some k) latest)
-      (none-found states from id (lacks id
-      (passed-to version store.kept.chains from place id passed least.2)))
+      first-of from id (status_of k) (entries states) (entries_sorted states) first.0
+      (sym (get-entries states id) ∙ sees read store s version id h keeps stay (Some k) first.1)
+      (none-found states from id (lacks id first.2))

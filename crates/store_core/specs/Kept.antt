@@ -43,6 +43,11 @@ abbrev pub kept_of : Option (ℕ × Bor (Option Shared)) → Option Kept
 kept_of None = None
 kept_of (Some r) = Some (record { version = r.0; value = r.1.now })
 
+-- and the first that was found
+abbrev pub first_of : Option (ℕ × ℕ × Bor (Option Shared)) → Option (ℕ × Kept)
+first_of None = None
+first_of (Some r) = Some (r.0, record { version = r.1; value = r.2.now })
+
 -- the record that was found, if there is one
 abbrev pub record_of : Option Kept → Option Shared
 record_of None = None

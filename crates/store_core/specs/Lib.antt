@@ -6,6 +6,7 @@ pub mod Kept
 pub mod Prepared
 pub mod Records
 pub mod Replies
+pub mod States
 pub mod Steps
 pub mod Stored
 pub mod Waiting

@@ -1,14 +1,17 @@
 //! The kept entries of a store, and an index of the prints and records of those that have a record.
-ghost use Rattle.std.specs.Prelude.{◌≡◌, ◌==◌, ◌+◌, ◌^◌, ◌++◌, ◌<◌, ◌≤◌, ◌↔◌, ℕ, [], ◌∷◌, All, Contains, IfSome, List, OnOk, filter, if◌then◌else◌, length, option_copied, option_map};
-ghost use Rattle.record_versions.specs.Entries.{IsLatest, IsLeastId, IsRead, chain_of, entries, is_other};
+ghost use Rattle.std.specs.Prelude.{◌≡◌, ◌==◌, ◌+◌, ◌^◌, ◌++◌, ◌<◌, ◌≤◌, ◌↔◌, ℕ, [], ◌∷◌, All, Contains, IfSome, List, OnOk, Option, filter, if◌then◌else◌, length, option_copied, option_map};
+ghost use Rattle.record_versions.specs.Entries.{IsLatest, IsRead, chain_of, entries, is_other};
 ghost use Rattle.store_machine.specs.declared.machine.Entry.{Entry};
-ghost use Rattle.store_core.specs.Kept.{AreIndexed, HasEntry, HasRoom, IsCandidate, IsFoundAt, IsNextId, Kept, Lists, kept_of};
+ghost use Rattle.store_core.specs.Kept.{AreIndexed, HasEntry, HasRoom, IsCandidate, IsFoundAt, IsNextId, Kept, Lists, first_of, kept_of};
+ghost use Rattle.record_versions.specs.Readings.{IsAhead, IsFirstAt};
+ghost use Rattle.record_versions.specs.Rows.{Row};
+ghost use Rattle.store_core.specs.Records.{Shared};
 ghost use Rattle.screen_index.specs.Pairs.{Rises, is_apart, rank};
 
 use crate::record::Record;
 use arrayvec::ArrayVec;
 use chem_core::Print;
-use record_versions::{Chains, Counted, Finder, Steps};
+use record_versions::{Chains, Counted, Finder, Readings, Steps};
 use screen_index::{Hint, ScreenIndex, Screened, Want};
 use std::alloc::{AllocError, Global};
 use std::marker::{Brand, Model};
@@ -21,6 +24,9 @@ pub type Candidate = Screened<Counted<Arc<Record>>>;
 
 /// A finder of entries. Contracts see all of them.
 pub type EntryFinder<'a> = Finder<'a, Option<Arc<Record>>>;
+
+/// The entries at a version.
+pub type EntryReadings<'a> = Readings<'a, Option<Arc<Record>>>;
 
 // Places of entries that have left the chains, in ascending order.
 type Gone = ArrayVec<(u32, u32), 256>;
@@ -115,11 +121,12 @@ impl KeptEntries {
         self.index.next(want, (from, 0), hint)
     }
 
-    /// The least identifier from `from` on that has an entry. It takes no memory.
-    pub fn next_id(&self, from: u32) -> Option<u32>
-        ensures { IsLeastId from self.now.chains result }
+    /// The entries at a version, from an identifier on.
+    pub fn readings(&self, from: u32, version: u32) -> EntryReadings<'_>
+        ensures ahead { IsAhead from self.now.chains result.ahead }
+        ensures version { result.version ≡ version }
     {
-        self.chains.next_id(from)
+        self.chains.readings(from, version)
     }
 
     /// Removes each entry that is its identifier's latest at none of the versions `live`, and returns the number of
@@ -191,6 +198,39 @@ fn latest_by<L: Ledger>(
     ensures { IsLatest version (chain_of chains.now id) (kept_of result) }
 {
     chains.at(id, version, &mut Steps::<L>::open(blank))
+}
+
+/// The next identifier that has an entry at a version, with that entry.
+pub fn next_reading<'a>(
+    readings: &mut EntryReadings<'a>,
+) -> Option<(u32, u32, &'a Option<Arc<Record>>)>
+    ensures first { (from : ℕ) (chains : List (ℕ × Row (Option Shared)))
+        → IsAhead from chains readings.old.ahead
+        → IsFirstAt readings.old.version from chains (first_of result) }
+    ensures ahead { (from : ℕ) (chains : List (ℕ × Row (Option Shared)))
+        → IsAhead from chains readings.old.ahead
+        → IfSome result (λ r. IsAhead (r.0 + 1) chains readings.new.ahead) }
+    ensures version { readings.new.version ≡ readings.old.version }
+{
+    next_by::<Brand>(readings, Blank::new(1))
+}
+
+fn next_by<'a, L: Ledger>(
+    readings: &mut EntryReadings<'a>,
+    blank: Blank,
+) -> Option<(u32, u32, &'a Option<Arc<Record>>)>
+    requires name { blank.name ≡ L.name }
+    requires parts { blank.parts ≡ L.parts }
+    requires some { 0 < blank.parts }
+    ensures first { (from : ℕ) (chains : List (ℕ × Row (Option Shared)))
+        → IsAhead from chains readings.old.ahead
+        → IsFirstAt readings.old.version from chains (first_of result) }
+    ensures ahead { (from : ℕ) (chains : List (ℕ × Row (Option Shared)))
+        → IsAhead from chains readings.old.ahead
+        → IfSome result (λ r. IsAhead (r.0 + 1) chains readings.new.ahead) }
+    ensures version { readings.new.version ≡ readings.old.version }
+{
+    readings.next(&mut Steps::<L>::open(blank))
 }
 
 // Notes that the pair of an identifier's latest entry is the latest before a version alone.

@@ -24,13 +24,14 @@ const SHORT: usize = 64;
 /// A text that has a structure, under an identifier of 1 to 999,999,999. It is shared, never copied.
 #[derive(Drop)]
 pub struct Record {
-    // Its structure lies beside the count that a page raises, and its text after the fields that searches read.
+    // Its structure lies beside the count that a page raises, and its text with its format after the fields that
+    // searches read.
     id: u32,
-    format: Format,
     // the number of bits that are set in the print
     bits: u16,
     mol: Mol,
     print: Print,
+    format: Format,
     text: SmallVec<u8, SHORT>,
 }
 
@@ -138,10 +139,10 @@ impl Recorder {
         let print = print_of(&mol);
         let record = Record {
             id,
-            format,
             bits: bits_of(&print),
             mol,
             print,
+            format,
             text,
         };
         match Arc::new(self.alloc, record) {

@@ -13,7 +13,8 @@ ghost use Rattle.store_machine.specs.declared.machine.State.{State};
 ghost use Rattle.store_machine.specs.declared.machine.TheConstants.{LAST_IDENTIFIER};
 ghost use Rattle.store_core.specs.Based.{IsBefore, IsGiven, based};
 ghost use Rattle.store_core.specs.Calls.{Calls, NotRaised, SameHeld, WornAs, is_compact_worn, is_worn, is_worn_out};
-ghost use Rattle.store_core.specs.Copied.{IsFirstFrom, KeepsCopy, KeepsVersion, Prunes, state_of};
+ghost use Rattle.store_core.specs.Copied.{KeepsCopy, Prunes};
+ghost use Rattle.store_core.specs.States.{GoOn};
 ghost use Rattle.store_core.specs.Kept.{status_in};
 ghost use Rattle.store_core.specs.Prepared.{IsPrepared, IsWhy};
 ghost use Rattle.store_core.specs.Records.{IsRecord, Shared, founds};
@@ -21,15 +22,14 @@ ghost use Rattle.store_core.specs.Replies.{change_of, compact_calls, fetch_calls
 ghost use Rattle.store_core.specs.Steps.{AreSteps};
 ghost use Rattle.store_core.specs.Stored.{HoldsPin, IsAt, Served, StandsFor, Stretches, alone, empty, served};
 
-use crate::kept::{KeptEntries, record_at};
+use crate::kept::{KeptEntries, next_reading, record_at};
 use crate::laws::laws;
 use crate::page::{MOST_RECORDS, Page};
 use crate::record::Record;
 use crate::service::Service;
+use crate::states::{States, gathered, longest};
 use crate::waiting::Waiting;
-use crate::words::{
-    CallFault, Change, CommitFault, Compact, CompactFault, IdState, Look, Stats, counted,
-};
+use crate::words::{CallFault, Change, CommitFault, Compact, CompactFault, Look, Stats, counted};
 use arrayvec::ArrayVec;
 use chem_core::Print;
 use mol_finish::one_structure;
@@ -209,26 +209,19 @@ impl Store {
         self.limit = commits;
     }
 
-    /// The first identifier from `from` on that has a state at a version, with this state; `None` if no identifier has
-    /// one. A copy reads its version so. Takes no memory.
-    pub fn next_state(&self, from: u32, version: u32) -> Option<IdState<'_>>
-        ensures first { (s : State) → StandsFor self.now (served s) → KeepsVersion s version
-            → IsFirstFrom from (entries (snapshot s.history version)) (option_map state_of result) }
-        ensures in_range { IfSome result (λ k. IsId k.id) }
+    /// The states at a version, from an identifier on. Takes no memory.
+    pub fn states_at(&self, from: u32, version: u32) -> States<'_>
+        ensures states { GoOn version from result }
+        ensures store { result.store ≡ self.now }
     {
-        laws();
-        let mut place = from;
-        while let Some(id) = self.kept.next_id(place) {
-            if let Some((made_at, entry)) = self.kept.latest(id, version) {
-                return Some(IdState {
-                    id,
-                    made_at,
-                    entry: entry.as_ref(),
-                });
-            }
-            place = id + 1;
-        }
-        None
+        States::begin(self, self.kept.readings(from, version))
+    }
+
+    /// The length of the longest text of the first `count` states from `from` on, or of the first 256. It reads these
+    /// texts side by side, so that a walk over the states does not wait for one after the other. Takes no memory.
+    pub fn longest_text(&self, from: u32, version: u32, count: u32) -> usize {
+        let records = gathered(&mut self.kept.readings(from, version), count);
+        longest(records.as_slice())
     }
 
     /// Drops the entries that are read neither at a pinned version nor at the head, nor at the version of a copy if one

@@ -1,14 +1,16 @@
 -- A copy goes on: its items, one after the other.
-use Rattle.std.proofs.Common.{◌≡◌, ◌⊎◌, ◌+◌, ◌-◌, ◌≤◌, ◌∙◌, ap, arith, Err, false, inl, inr, IsSomeAnd, List, [], ◌∷◌, None, Ok, Option, option_map, refl, Result, Some, subst, suc, sym, zero, ℕ}
+use Rattle.std.proofs.Common.{◌≡◌, ◌⊎◌, ◌+◌, ◌-◌, ◌≤◌, ◌∙◌, ap, arith, Err, false, IfSome, inl, inr, IsSomeAnd, List, [], ◌∷◌, None, Ok, Option, option_map, refl, Result, Some, subst, suc, sym, zero, ℕ}
 use Rattle.disk_edge.specs.Disk as disk
 use Rattle.disk_edge.specs.Disk.{DiskModel}
 use Rattle.disk_pair.specs.Gives.{CurrentStays, OnFault, PairGoes}
 use Rattle.disk_pair.specs.Pairs.{MayShow as PairMayShow, PairOpensTo as PairMayOpen}
-use Rattle.disk_pair.specs.Term.{AtEachPair, Goes, disk_a, disk_b}
+use Rattle.disk_pair.specs.Term.{AtEachPair, Goes, Paired, disk_a, disk_b}
 use Rattle.disk_pair.specs.declared.fault.PutFault.{PutFault}
 use Rattle.disk_pair.specs.declared.fault.PutFault.TheVariants as put
 use Rattle.store_core.specs.Calls.{Calls}
 use Rattle.store_core.specs.Replies.{compact_calls}
+use Rattle.store_core.specs.States.{GoOn, StatesTerm}
+use Rattle.store_core.specs.Stored.{StoreTerm as Memory}
 use Rattle.store_machine.specs.Laws.{RunsStaySound}
 use Rattle.store_machine.specs.Machine.{CompactGives, TakesSome}
 use Rattle.store_machine.specs.Rebases.{RebasesKeepHeads}
@@ -18,10 +20,12 @@ use Rattle.store_machine.specs.declared.machine.History.{History}
 use Rattle.store_machine.specs.declared.machine.Reply.TheVariants.{DiskFault, More, NoMemory}
 use Rattle.store_machine.specs.declared.machine.State.{State}
 use Rattle.store_machine.specs.declared.machine.TheConstants.{ITEMS_A_STEP}
+use Rattle.store_disk.specs.Copies.{copy_of}
 use Rattle.store_disk.specs.Faults.{copy_fault}
-use Rattle.store_disk.specs.Items.{ItemGives, counted, left, one_less}
-use Rattle.store_disk.specs.OnDisk.{CopyTerm, HasCopy, StandsFor, StoreTerm, on_pair}
+use Rattle.store_disk.specs.Items.{ItemGives, counted, left, of_parts, one_less}
+use Rattle.store_disk.specs.OnDisk.{CopyTerm, HasCopy, IsReady, StandsFor, StoreTerm, on_pair}
 use Rattle.store_disk.specs.Stored.{Stretches, told-before}
+use Rattle.store_disk.specs.declared.copy.Copying.{Copying as Running}
 use Rattle.store_disk.proofs.Compacts.{compacted, some-rose}
 use Rattle.store_disk.proofs.Goes.{goes-itself, goes-twice, two-moments}
 use Rattle.store_disk.proofs.OnDisks.{shown-after}
@@ -108,6 +112,36 @@ pub record Item {D : Type 0} (model : DiskModel D) (old new : StoreTerm D) (r : 
     pub memory : new.memory ≡ old.memory
     pub current : CurrentStays model old.pair new.pair
     pub goes : PairGoes model r old.pair new.pair
+
+-- of an item that was put beside the memory that the walk over the states has
+pub item-of : {D : Type 0} (model : DiskModel D) (has m : Memory) → has ≡ m → (old new : Paired D)
+    (was now : Option Running) (r : Result (Unit {0}) PutFault)
+    → ((s : State) → StandsFor model (of_parts has old was) s → ItemGives model r (of_parts has new now) s)
+    → CurrentStays model old new → PairGoes model r old new
+    → Item model (of_parts m old was) (of_parts m new now) r
+item-of {D} model has m same old new was now r gives current goes = record {
+  gives = subst (λ (k : Memory). (s : State) → StandsFor model (of_parts k old was) s
+      → ItemGives model r (of_parts k new now) s) same gives;
+  memory = refl;
+  current = current;
+  goes = goes;
+}
+
+-- A step that goes on: what its items leave of the parts of a store, and where the walk over the states is.
+pub record GoingOn {D : Type 0} (model : DiskModel D) (items : ℕ) (memory : Memory) (old new : Paired D)
+    (was now : Option Running) (states : StatesTerm) (n : ℕ) : Type 0 where
+  pub taken : Taken model items (of_parts memory old was) (of_parts memory new now) n
+  pub ready : IsReady memory new (option_map copy_of now)
+  pub states : IfSome now (λ c. GoOn c.version c.from states)
+  pub store : states.store ≡ memory
+
+-- a walk from a copy's place
+pub from-place : (copy : Option Running) (version from : ℕ) (states : StatesTerm)
+    → IfSome copy (λ c. (version ≡ c.version) × (from ≡ c.from)) → GoOn version from states
+    → IfSome copy (λ c. GoOn c.version c.from states)
+from-place None version from states is goes = tt
+from-place (Some c) version from states is goes =
+    subst (λ v. GoOn v c.from states) is.0 (subst (λ n. GoOn version n states) is.1 goes)
 
 later-rose : (a b c : ℕ) → a ≤ b → disk.Rose b c → disk.Rose a c
 later-rose a b c le r = elim r [ inl less ↦ inl (omega (arith, le, less)) | inr end ↦ inr end ]

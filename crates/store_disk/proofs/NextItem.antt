@@ -1,5 +1,5 @@
 -- A copy's next item: where it is found, and what a call on the pair gives of it.
-use Rattle.std.proofs.Common.{◌≡◌, ◌+◌, ◌≤◌, ◌∙◌, ap, arith, Bool, drop, Err, false, get_or, IfSome, length, List, [], ◌∷◌, map, None, Option, option_map, Result, Some, subst, sym, true, Vec, ℕ}
+use Rattle.std.proofs.Common.{◌≡◌, ◌+◌, ◌≤◌, ◌∙◌, ap, arith, Bool, drop, Err, false, get_or, IfSome, length, List, [], ◌∷◌, map, None, Ok, OnOk, Option, option_map, Result, Some, subst, sym, true, Vec, ℕ}
 use Rattle.std.specs.declared.alloc.Global.{Global}
 use Rattle.disk_edge.specs.Disk.{DiskModel}
 use Rattle.disk_pair.specs.Gives.{CopyGives}
@@ -19,6 +19,11 @@ use Rattle.store_disk.specs.Items.{left, with_next}
 use Rattle.store_disk.specs.OnDisk.{CopyTerm, Lacks, copy_so_far, lacking, on_pair, whole_copy}
 use Rattle.store_disk.specs.Payloads.{base_payload}
 use Rattle.store_disk.proofs.Items.{commit-written, no-commits, none-later, state-written}
+
+-- what holds always holds at `Ok`
+pub if-ok : {X E : Type 0} (P : Type 0) (r : Result X E) → P → OnOk r P
+if-ok P (Ok x) p = p
+if-ok P (Err e) p = tt
 
 -- the copy's version is kept in memory
 pub keeps-version : KeepsCopied → (m : Memory) (s : State) (c : CopyTerm) → IsServing m s → Lacks s.history s.copy c

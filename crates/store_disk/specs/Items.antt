@@ -7,11 +7,16 @@ use Rattle.disk_pair.specs.Stands.{StandsFor as PairStandsFor}
 use Rattle.disk_pair.specs.Term.{Paired, Progress, disk_a, disk_b}
 use Rattle.disk_pair.specs.declared.fault.PutFault.{PutFault}
 use Rattle.disk_pair.specs.declared.fault.PutFault.TheVariants.{DiskFault, NoMemory}
+use Rattle.store_core.specs.Stored.{StoreTerm as Memory}
 use Rattle.store_machine.specs.declared.machine.Copying.{Copying}
 use Rattle.store_machine.specs.declared.machine.State.{State}
 use Rattle.store_disk.specs.Copies.{copy_of}
 use Rattle.store_disk.specs.OnDisk.{CopyTerm, Follow, HasHeader, Lacks, StandsFor, StoreTerm, lacking, on_pair, whole_copy}
 use Rattle.store_disk.specs.declared.copy.Copying.{Copying as Running}
+
+-- a store of its parts
+abbrev pub of_parts : {D : Type 0} → Memory → Paired D → Option Running → StoreTerm D
+of_parts memory pair copy = record { memory = memory; pair = pair; copy = option_map copy_of copy }
 
 -- how many items it lacks
 abbrev pub left : CopyTerm → ℕ

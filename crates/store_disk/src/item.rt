@@ -1,8 +1,9 @@
 //! The next item of a copy is read, from memory or from the queue of commits, and added to the copy.
 
-ghost use Rattle.std.specs.Prelude.{◌≡◌, ◌≤◌, length};
+ghost use Rattle.std.specs.Prelude.{◌≡◌, ◌≤◌, OnOk, length};
 ghost use Rattle.disk_pair.specs.Gives.{CurrentStays, PairGoes};
 ghost use Rattle.disk_pair.specs.Term.{progress_of};
+ghost use Rattle.store_core.specs.States.{GoOn};
 ghost use Rattle.store_core.specs.Stored.{IsServing};
 ghost use Rattle.store_machine.specs.declared.machine.State.{State};
 ghost use Rattle.store_disk.specs.Copies.{copy_of};
@@ -11,44 +12,49 @@ ghost use Rattle.store_disk.specs.OnDisk.{IsFollowed, Lacks};
 
 use crate::below::laws;
 use crate::copy::Copying;
-use crate::payload::base_payload_of;
+use crate::payload::write_base_payload;
 use disk_edge::Disk;
 use disk_pair::{Pair, PutFault};
-use std::alloc::{AllocError, Global};
-use store_core::Store as Memory;
+use std::alloc::AllocError;
+use store_core::States;
 
-/// Adds the next item to a copy: the first state that it lacks, as memory has it, or where it lacks none the first
-/// commit. After a fault the copy lacks what it did.
+/// Adds the next item to a copy: the first state that it lacks, which comes next in `states`, or where it lacks none
+/// the first commit. `payload` is memory to work in. After a fault the copy lacks what it did.
 pub(crate) fn put_next<D: Disk + Drop>(
-    alloc: Global,
-    memory: &Memory,
     pair: &mut Pair<D>,
     copy: &mut Copying,
+    states: &mut States<'_>,
+    payload: &mut Vec<u8>,
 ) -> Result<(), PutFault>
     requires some { 1 ≤ left (copy_of copy.old) }
     requires follows { IsFollowed (copy_of copy.old) (progress_of pair.old.other) }
-    requires stands { (s : State) × IsServing memory.now s × Lacks s.history s.copy (copy_of copy.old) }
+    requires stands { (s : State) × IsServing states.old.store s
+        × Lacks s.history s.copy (copy_of copy.old) }
+    requires states { GoOn copy.old.version copy.old.from states.old }
 
-    ensures item { (s : State) → IsServing memory.now s → Lacks s.history s.copy (copy_of copy.old)
+    ensures item { (s : State) → IsServing states.old.store s
+        → Lacks s.history s.copy (copy_of copy.old)
         → AddsItem D.model result pair.old pair.new (copy_of copy.old) (copy_of copy.new) s }
     ensures goes_on { CopyGoesOn result copy.old copy.new
         (progress_of pair.old.other) (progress_of pair.new.other) }
     ensures current { CurrentStays D.model pair.old pair.new }
     ensures goes { PairGoes D.model result pair.old pair.new }
+    ensures states { OnOk result (GoOn copy.new.version copy.new.from states.new) }
+    ensures store { states.new.store ≡ states.old.store }
 {
     if copy.states == 0 {
         return put_commit(pair, copy);
     }
     laws(pair);
-    let Some(state) = memory.next_state(copy.from, copy.version) else {
+    let Some(state) = states.next() else {
         unreachable!()
     };
-    let payload = match base_payload_of(alloc, &state) {
-        Ok(payload) => payload,
+    match write_base_payload(payload, &state) {
+        Ok(()) => {}
         Err(AllocError) => return Err(PutFault::NoMemory),
-    };
+    }
     let next = state.id + 1;
-    match pair.put_base(&payload) {
+    match pair.put_base(payload) {
         Ok(()) => {}
         Err(fault) => return Err(fault),
     }
@@ -69,6 +75,8 @@ fn put_commit<D: Disk + Drop>(pair: &mut Pair<D>, copy: &mut Copying) -> Result<
         (progress_of pair.old.other) (progress_of pair.new.other) }
     ensures current { CurrentStays D.model pair.old pair.new }
     ensures goes { PairGoes D.model result pair.old pair.new }
+    ensures version { copy.new.version ≡ copy.old.version }
+    ensures from { copy.new.from ≡ copy.old.from }
 {
     let Some(payload) = copy.commits.front() else {
         unreachable!()

@@ -1,20 +1,21 @@
 //! Changes as payloads of the journal, and back; and the entries of a base, as they are read.
 
-ghost use Rattle.std.specs.Prelude.{◌≡◌, ◌≢◌, ◌≤◌, IfErr, IfOk, IfSome, length, option_copied, ℕ};
+ghost use Rattle.std.specs.Prelude.{◌≡◌, ◌≢◌, ◌≤◌, IfErr, IfOk, IfSome, OnOk};
 ghost use Rattle.std.specs.Arc.{arc_value};
 ghost use Rattle.commit_log.specs.Change.{IsInRange};
 ghost use Rattle.commit_log.specs.Change as logged;
-ghost use Rattle.commit_log.specs.Entry.{entry_of, state_of as base_state_of, tail};
+ghost use Rattle.commit_log.specs.Entry.{entry_of};
 ghost use Rattle.journal_core.specs.Records.{IsShort};
 ghost use Rattle.mol_finish.specs.declared.fault.TextFault.TheVariants.{NoMemory};
 ghost use Rattle.store_core.specs.Copied.{state_of};
 ghost use Rattle.store_core.specs.Kept.{status_in};
 ghost use Rattle.store_core.specs.Replies.{change_of};
 ghost use Rattle.store_machine.specs.History.{HasText, IsId, IsValid};
-ghost use Rattle.store_disk.specs.Payloads.{base_payload, logged_format, logged_state, payload, stored_format, told, told_entry};
+ghost use Rattle.store_disk.specs.Payloads.{base_payload, logged_format, payload, stored_format, told, told_entry};
 
 use commit_log::{
-    BaseEntry, BaseState, Wire, encode_base, encode_register, encode_revise, encode_withdraw,
+    BaseEntry, BaseState, Wire, encode_register, encode_revise, encode_withdraw, write_live,
+    write_withdrawn,
 };
 use mol_finish::{Format, TextFault};
 use std::alloc::{AllocError, Global};
@@ -94,34 +95,21 @@ pub(crate) fn record_from(recorder: &mut Recorder, entry: &BaseEntry) -> ReadRec
     }
 }
 
-/// The payload of a base record.
-pub(crate) fn base_payload_of(alloc: Global, state: &IdState<'_>) -> Result<Vec<u8>, AllocError>
-    ensures payload { IfOk result (λ v. v.items ≡ base_payload (state_of state.now)) }
-    ensures short { IfOk result (λ v. IsShort v.items) }
+/// Writes the payload of a base record in place of what the buffer has.
+pub(crate) fn write_base_payload(
+    payload: &mut Vec<u8>,
+    state: &IdState<'_>,
+) -> Result<(), AllocError>
+    ensures payload { OnOk result (payload.new.items ≡ base_payload (state_of state.now)) }
+    ensures short { OnOk result (IsShort payload.new.items) }
 {
-    let entry = BaseEntry {
-        id: state.id,
-        version: state.made_at,
-        state: base_state(alloc, state.entry)?,
-    };
-    encode_base(alloc, &entry)
-}
-
-// What a base record has of an identifier.
-fn base_state(alloc: Global, entry: Option<&Arc<Record>>) -> Result<BaseState, AllocError>
-    ensures state { (version : ℕ) → IfOk result (λ state. base_state_of state
-        ≡ logged_state (status_in version (option_copied entry.entry))) }
-    ensures short { IfOk result (λ state. length (tail (base_state_of state)) ≤ 262145) }
-{
-    match entry {
+    match state.entry {
         Some(record) => {
             let _ = record.id();
-            Ok(BaseState::Live {
-                format: logged_format(record.format()),
-                text: Vec::from_slice(alloc, record.text())?,
-            })
+            let format = logged_format(record.format());
+            write_live(payload, state.id, state.made_at, format, record.text())
         }
-        None => Ok(BaseState::Withdrawn),
+        None => write_withdrawn(payload, state.id, state.made_at),
     }
 }
 

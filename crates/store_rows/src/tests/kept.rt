@@ -272,7 +272,7 @@ fn a_store_goes_on_from_its_base(rt: HostRuntime) -> Result<(), Fail> {
 // The state that a copy of a version finds from an identifier on: the identifier, the version that made it, and whether
 // it is live.
 fn found(store: &Store, from: u32, version: u32) -> Option<(u32, u32, bool)> {
-    let state = store.next_state(from, version)?;
+    let state = store.states_at(from, version).next()?;
     Some((state.id, state.made_at, state.entry.is_some()))
 }
 

@@ -1,5 +1,0 @@
-use Rattle.std.proofs.Common.{sym}
-use Rattle.store_core.proofs.kept.KeptEntries.next_id.Goals as goal
-
-pub returns : goal.returns
-returns c = rw (sym c.self.view_is) c.next_id.ensures
