@@ -1,7 +1,7 @@
 -- Counts of atoms and bonds by sorts: raised one after another, and those of one atom or bond more.
-use Rattle.std.proofs.Common.{◌≡◌, ◌||◌, ℕ, ◌+◌, ◌<◌, ◌≤◌, ◌∙◌, Bool, false, true, List, cond, count_by, get_or, inl, inr, length, min, nat_lt, pos, set, slice_index, take, All, refl, sym, ap, subst, arith}
+use Rattle.std.proofs.Common.{◌≡◌, ◌↔◌, ◌||◌, ℕ, ◌+◌, ◌<◌, ◌≤◌, ◌∙◌, Bool, false, true, List, cond, count_by, get_or, inl, inr, length, min, nat_lt, pos, set, slice_index, take, All, refl, sym, ap, subst, arith}
 use mir.Val.{bool_byte}
-use Rattle.std.proofs.lemmas.Bool.{cases_eq, ltb-true}
+use Rattle.std.proofs.lemmas.Bool.{cases_eq, false≢true, ltb-true, lt-ltb, or_cases, or_left, or_right}
 use Rattle.std.proofs.lemmas.List.{get_or-map, get_or-set_other, get_or-set_same, length-map, length-set}
 use Rattle.std.proofs.lemmas.List.Sums.{sum_by_more}
 use Rattle.std.proofs.lemmas.Option.{slice_get-get_or}
@@ -11,7 +11,7 @@ use Rattle.chem_core.specs.declared.mol.Bond.{Bond}
 use Rattle.chem_core.specs.declared.mol.BondKind.TheVariants.{Single}
 use Rattle.chem_core.specs.Graph.{IsSimpleGraph}
 use Rattle.chem_core.specs.Molecule.{bond_ends}
-use Rattle.chem_core.specs.Sorts.{IsLess, class_in, class_there, is_of_sort}
+use Rattle.chem_core.specs.Sorts.{class_in, class_there, is_of_sort}
 use Rattle.chem_core.specs.Symbols.{class_of}
 
 pub byte-is : (b : Bool) → bool_byte b ≡ cond b 1 0
@@ -76,10 +76,26 @@ class-there atoms i d within = ap class_there (slice_get-get_or atoms i d within
 pub same-sort : (s : BondSort) (k l a b x y : ℕ) → k ≡ l → a ≡ b → x ≡ y → is_of_sort s k a x ≡ is_of_sort s l b y
 same-sort s k l a b x y e f g = λ i. is_of_sort s (e i) (f i) (g i)
 
-pub less-more : (less : Bool) (xs ys : List ℕ) (k : ℕ) → k < 8 → (less ≡ true → IsLess xs ys)
-    → (less || nat_lt (slice_index xs k) (slice_index ys k)) ≡ true → IsLess xs ys
-less-more true xs ys k low known h = known refl
-less-more false xs ys k low known h = (k, low, ltb-true (slice_index xs k) (slice_index ys k) h)
+-- one of the counts before place i is less
+abbrev pub LessBefore : List ℕ → List ℕ → ℕ → Type 0
+LessBefore xs ys i = (k : ℕ) × (k < i) × (slice_index xs k < slice_index ys k)
+
+pub less-none : (xs ys : List ℕ) → ((false ≡ true) ↔ LessBefore xs ys 0)
+less-none xs ys = (λ h. absurd (false≢true h), λ (k, low, less). absurd (omega arith))
+
+pub less-more : (less : Bool) (xs ys : List ℕ) (i : ℕ) → ((less ≡ true) ↔ LessBefore xs ys i)
+    → (((less || nat_lt (slice_index xs i) (slice_index ys i)) ≡ true) ↔ LessBefore xs ys (i + 1))
+less-more less xs ys i known = (
+  λ h. elim (or_cases _ _ h) [
+    | inl before ↦ let (k, low, one) = known.0 before in (k, omega arith, one)
+    | inr here ↦ (i, omega arith, ltb-true (slice_index xs i) (slice_index ys i) here)
+  ],
+  λ (k, low, one). elim (cases_eq k i) [
+    | inl here ↦ or_right _ _ (lt-ltb (slice_index xs i) (slice_index ys i)
+        (subst (λ n. slice_index xs n < slice_index ys n) here one))
+    | inr other ↦ or_left _ _ (known.1 (k, omega arith, one))
+  ],
+)
 
 -- the ends of each bond are atoms
 pub ends-within : (n : ℕ) (bonds : List Bond) → IsSimpleGraph n (bond_ends bonds)

@@ -1,6 +1,6 @@
 //! Small counts of what a molecule has, by sorts of atoms and of bonds. A pattern that asks for more of a sort is
 //! refused by one comparison, before anything else of the molecule is read.
-ghost use Rattle.std.specs.Prelude.{◌≡◌, ◌<◌, ◌+◌, ℕ, All, count_by, length, min, slice_index, if◌then◌else◌, IsTrue};
+ghost use Rattle.std.specs.Prelude.{◌≡◌, ◌↔◌, ◌<◌, ◌+◌, ℕ, All, count_by, length, min, slice_index, if◌then◌else◌, IsTrue};
 ghost use Rattle.chem_core.specs.Sorts.{AreCounts, IsLess, Lacks, atom_sort, atom_sorts, bond_sort, bond_sorts, class_in, has_class, is_atom_of, is_bond_of, is_of_sort, kind_number};
 
 use crate::mol::{Atom, Bond, BondKind};
@@ -93,7 +93,7 @@ impl SortCounts {
     /// Whether one of the counts is less than the one that is asked.
     #[inline(always)]
     pub fn lacks(&self, asked: &SortCounts) -> bool
-        ensures { IsTrue result → Lacks self.now asked.now }
+        ensures { IsTrue result ↔ Lacks self.now asked.now }
     {
         let atoms = is_less(&self.atoms, &asked.atoms);
         let bonds = is_less(&self.bonds, &asked.bonds);
@@ -221,7 +221,7 @@ fn has_bit(word: u64, bit: u16) -> bool
 // Whether one of the counts is less than that at its place in a second list.
 #[inline(always)]
 fn is_less(counts: &[u8; SORT_ROOM], asked: &[u8; SORT_ROOM]) -> bool
-    ensures { IsTrue result → IsLess counts.now asked.now }
+    ensures { IsTrue result ↔ IsLess counts.now asked.now }
 {
     let mut less = false;
     for k in 0..SORT_ROOM {

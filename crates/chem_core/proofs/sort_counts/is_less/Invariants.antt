@@ -1,7 +1,7 @@
-use Rattle.std.proofs.Common.{◌≡◌, true}
-use Rattle.chem_core.specs.Sorts.{IsLess}
+use Rattle.std.proofs.Common.{◌≡◌, ◌↔◌, true}
+use Rattle.chem_core.proofs.Sorts.{LessBefore}
 use Rattle.chem_core.proofs.sort_counts.is_less.Given as goal
 
--- what is less so far is less
+-- whether one of those so far is less
 abbrev pub invariant-loop-k : goal.invariant-loop-k
-invariant-loop-k l = l.less ≡ true → IsLess l.counts l.asked
+invariant-loop-k l = (l.less ≡ true) ↔ LessBefore l.counts l.asked l.k

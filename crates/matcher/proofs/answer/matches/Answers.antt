@@ -13,7 +13,7 @@ pub returns-then-lacks : goal.returns-then-lacks
 returns-then-lacks c = (
   λ t. absurd (false≢true t),
   λ w. absurd (c.requires.prepared.asked c.args.mol.now c.counts.result.now c.counts.ensures w
-      (c.lacks.ensures c.if-lacks.true)),
+      (c.lacks.ensures.0 c.if-lacks.true)),
 )
 
 pub note_parts-requires-clause-count : goal.note_parts-requires-clause-count
