@@ -6,7 +6,6 @@ use Rattle.io_edge.specs.declared.sources.Source as taken
 use Rattle.session_acts.specs.Cursors.{Calls}
 use Rattle.session_acts.specs.Served as session
 use Rattle.session_acts.specs.Served.{EndsAs, TakesAtMost, Writes}
-use Rattle.session_acts.specs.Served as script
 use Rattle.session_acts.specs.Truths.{AreTrue, IsInRun, IsTrueBeginning, IsTrueService, ServicesAreTrue}
 use Rattle.session_acts.specs.Talking.{begun}
 use Rattle.dialogue.specs.declared.end.EndStatus.{EndStatus}
@@ -25,11 +24,11 @@ use Rattle.serve_ends.specs.declared.status.TheConstants.{DONE}
 
 -- requests that were answered whole are a beginning
 answered_begins : (page : ℕ) (lines : List TextLine) (calls : Calls) (text : List ℕ)
-    → session.IsWholePrefix page lines calls text → script.IsTranscriptPrefix page lines calls text
+    → session.IsWholePrefix page lines calls text → session.IsTranscriptPrefix page lines calls text
 answered_begins page lines calls text (own, kept, answered, all) = (own, kept, inl answered, all)
 
 whole_begins : (page : ℕ) (lines : List TextLine) (calls : Calls) (text : List ℕ)
-    → script.IsTranscript page lines calls text → script.IsTranscriptPrefix page lines calls text
+    → session.IsTranscript page lines calls text → session.IsTranscriptPrefix page lines calls text
 whole_begins page lines calls text (own, kept, dialogue, all) =
     answered_begins page lines calls text (own, kept, ([], dialogue), all)
 
@@ -37,7 +36,7 @@ abbrev nothing_answered : (page : ℕ) (lines : List TextLine) → session.IsDia
 nothing_answered page lines =
     record { exchanges = []; begin = refl; exchanged = refl; made = refl; said = refl }
 
-nothing_begins : (page : ℕ) (lines : List TextLine) → script.IsTranscriptPrefix page lines [] []
+nothing_begins : (page : ℕ) (lines : List TextLine) → session.IsTranscriptPrefix page lines [] []
 nothing_begins page lines = (
   [],
   begun page,
@@ -48,7 +47,7 @@ nothing_begins page lines = (
 -- a session that is not worn put a prefix
 served_begins : (ended : EndStatus) (page : ℕ) (lines : List TextLine) (calls : Calls) (text : List ℕ)
     → ended ≢ Worn
-    → session.IsServed ended page lines calls text → script.IsTranscriptPrefix page lines calls text
+    → session.IsServed ended page lines calls text → session.IsTranscriptPrefix page lines calls text
 served_begins Done page lines calls text fit served = whole_begins page lines calls text served
 served_begins Worn page lines calls text fit served = absurd (fit refl)
 served_begins SourceFault page lines calls text fit served = answered_begins page lines calls text served

@@ -129,11 +129,11 @@ item-of {D} model has m same old new was now r gives current goes = record {
 
 -- A step that goes on: what its items leave of the parts of a store, and where the walk over the states is.
 pub record GoingOn {D : Type 0} (model : DiskModel D) (items : ℕ) (memory : Memory) (old new : Paired D)
-    (was now : Option Running) (states : StatesTerm) (n : ℕ) : Type 0 where
+    (was now : Option Running) (walk : StatesTerm) (n : ℕ) : Type 0 where
   pub taken : Taken model items (of_parts memory old was) (of_parts memory new now) n
   pub ready : IsReady memory new (option_map copy_of now)
-  pub states : IfSome now (λ c. GoOn c.version c.from states)
-  pub store : states.store ≡ memory
+  pub states : IfSome now (λ c. GoOn c.version c.from walk)
+  pub store : walk.store ≡ memory
 
 -- a walk from a copy's place
 pub from-place : (copy : Option Running) (version from : ℕ) (states : StatesTerm)

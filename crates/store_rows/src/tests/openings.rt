@@ -16,38 +16,34 @@ const ATOM: &[u8] = b"\n\n\n  1  0  0  0  0  0  0  0  0  0999 V2000
 const TEXT: u32 = 16_000;
 
 // The place of the commit of this number, counted from 0. The first that is 262,144 bytes behind the front is 17.
-const fn place(number: u32) -> u64 {
-    8 + number as u64 * (11 + TEXT as u64)
+fn place(number: u32) -> u64 {
+    8 + u64::from(number) * (11 + u64::from(TEXT))
 }
 
-// How many commits a file has, the numbers of those without a structure, how many bytes its end lacks, and what is
-// opened.
-type Row = (u32, &'static [u32], usize, Result<u32, LoadFault>);
+// How many commits a file has, the numbers of those without a structure, how many bytes its end lacks, and the version
+// that is opened, or the number of the commit that is told.
+type Row = (u32, &'static [u32], usize, Result<u32, u32>);
 
 #[rattlefmt::skip]
 const ROWS: &[Row] = &[
     (0, &[], 0, Ok(0)),
-    (1, &[], 0, Ok(1)),
-    (16, &[], 0, Ok(16)),
     (17, &[], 0, Ok(17)),
     (18, &[], 0, Ok(18)),
-    (19, &[], 0, Ok(19)),
-    (35, &[], 0, Ok(35)),
     (36, &[], 0, Ok(36)),
-    (40, &[0], 0, Err(LoadFault::Damaged(place(0)))),
-    (40, &[8], 0, Err(LoadFault::Damaged(place(8)))),
-    (40, &[16], 0, Err(LoadFault::Damaged(place(16)))),
-    (40, &[17], 0, Err(LoadFault::Damaged(place(17)))),
-    (40, &[18], 0, Err(LoadFault::Damaged(place(18)))),
-    (40, &[39], 0, Err(LoadFault::Damaged(place(39)))),
-    (40, &[16, 17, 18], 0, Err(LoadFault::Damaged(place(16)))),
-    (40, &[18, 3, 30], 0, Err(LoadFault::Damaged(place(3)))),
-    (40, &[], 2, Err(LoadFault::Damaged(place(39)))),
-    (40, &[3], 2, Err(LoadFault::Damaged(place(39)))),
+    (20, &[0], 0, Err(0)),
+    (20, &[17], 0, Err(17)),
+    (20, &[18], 0, Err(18)),
+    (20, &[18, 3, 17], 0, Err(3)),
+    (20, &[3], 2, Err(19)),
 ];
 
 // A file of registrations under identifiers from 1 on.
-fn journal(alloc: Global, commits: u32, without: &[u32], lacks: usize) -> Result<Vec<u8>, AllocError> {
+fn journal(
+    alloc: Global,
+    commits: u32,
+    without: &[u32],
+    lacks: usize,
+) -> Result<Vec<u8>, AllocError> {
     let mut file = b"ZCHEMDB1".to_vec(alloc)?;
     for number in 0..commits {
         let end = file.len().saturating_add(11 + TEXT as usize);
@@ -56,7 +52,11 @@ fn journal(alloc: Global, commits: u32, without: &[u32], lacks: usize) -> Result
         file.push(1)?;
         file.extend_from_slice(&number.saturating_add(1).to_le_bytes())?;
         file.push(2)?;
-        let text = if without.contains(&number) { &ATOM[1..] } else { ATOM };
+        let text = if without.contains(&number) {
+            &ATOM[1..]
+        } else {
+            ATOM
+        };
         file.extend_from_slice(text)?;
         file.resize(end, b'\n')?;
     }
@@ -73,7 +73,10 @@ fn opened<R: Threads + Sync>(
     file: &[u8],
 ) -> Result<Stats, LoadFault> {
     let a = MemDisk::of(alloc, file.to_vec(alloc)?)?;
-    let disks = Disks { a, b: MemDisk::new(alloc) };
+    let disks = Disks {
+        a,
+        b: MemDisk::new(alloc),
+    };
     let loaded = if workers == 0 {
         Store::load(alloc, disks, 1_000)
     } else {
@@ -93,12 +96,16 @@ fn the_first_commit_that_cannot_be_made_is_told(rt: HostRuntime) -> Result<(), F
     let alloc = rt.alloc();
     for (commits, without, lacks, want) in ROWS {
         let file = journal(alloc, *commits, without, *lacks)?;
-        for workers in [0, 1, 2, 3, 4, 16] {
+        let want = match *want {
+            Ok(version) => Ok(version),
+            Err(number) => Err(LoadFault::Damaged(place(number))),
+        };
+        for workers in [0, 1, 3] {
             let found = match opened(&rt, alloc, workers, file.as_slice()) {
                 Ok(stats) => Ok(stats.version),
                 Err(fault) => Err(fault),
             };
-            assert_eq!(rt; found, *want, "{commits} {without:?} {workers}");
+            assert_eq!(rt; found, want, "{commits} {without:?} {workers}");
         }
     }
     Ok(())
@@ -128,7 +135,7 @@ fn the_first_entry_without_a_structure_is_told(rt: HostRuntime) -> Result<(), Fa
         (Some(40), Err(LoadFault::Damaged(20 + 39 * 15))),
     ] {
         let file = base(alloc, without)?;
-        for workers in [0, 1, 2, 4] {
+        for workers in [0, 1, 4, 16] {
             let found = match opened(&rt, alloc, workers, file.as_slice()) {
                 Ok(stats) => Ok(stats.live),
                 Err(fault) => Err(fault),
