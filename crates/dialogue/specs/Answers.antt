@@ -15,8 +15,8 @@ use Rattle.dialogue.specs.declared.end.Stop.TheVariants as stops
 pub record TalkModel (T P : Type 0) : Type 1 where
   -- what is talked
   pub manner : Manner
-  -- The talker keeps this, took these lines of the request under way, answered no more requests than so many, and can
-  -- go on with the peer
+  -- The talker keeps this, took these lines of the request under way, answered at most this many requests, and can go
+  -- on with the peer
   pub IsReady : T → P → manner.Kept → List TextLine → ℕ → Type 0
   -- The talker keeps this, and can give it back
   pub CanClose : T → P → manner.Kept → Type 0

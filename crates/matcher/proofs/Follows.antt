@@ -1,5 +1,5 @@
 -- A search along a route: which atoms are left to be tried.
-use Rattle.std.proofs.Common.{◌≡◌, ◌≢◌, ◌⊎◌, ◌∙◌, ◌+◌, ◌*◌, ◌%◌, ◌^◌, ◌<◌, ◌≤◌, ℕ, List, [], ap, arith, bit_and, bit_or, get_or, inl, inr, length, map, max, min, set, slice_get, slice_index, Some, subst, sym, take, w64}
+use Rattle.std.proofs.Common.{◌≡◌, ◌≢◌, ◌⊎◌, ◌∙◌, ◌+◌, ◌*◌, ◌%◌, ◌^◌, ◌<◌, ◌≤◌, ℕ, List, [], ap, arith, bit_and, bit_or, get_or, inl, inr, length, set, slice_get, slice_index, Some, subst, sym, take, w64}
 use Rattle.std.specs.Int.{bit_at}
 use Rattle.std.proofs.lemmas.Bool.{cases_eq, cases_lt}
 use Rattle.std.proofs.lemmas.List.{get_or-map, get_or-set_other, get_or-set_same, get_or-take, get_or_default, length-map, length-take-le}
@@ -10,7 +10,7 @@ use Rattle.chem_core.specs.Graph.{JoinsAt}
 use Rattle.chem_core.specs.Molecule.{IsMolecule, Molecule, ends_of}
 use Rattle.chem_core.specs.Sorts.{kind_number}
 use Rattle.smarts_parse.specs.Embedding.{BondEmbeds}
-use Rattle.smarts_parse.specs.Pattern.{BondTerm, GraphTerm, bond_of, graph_of, term_of}
+use Rattle.smarts_parse.specs.Pattern.{BondTerm, GraphTerm, graph_of, term_of}
 use Rattle.smarts_parse.specs.Sound.{pattern_ends}
 use Rattle.smarts_parse.specs.Truth.{AtomTrue, BondTrue}
 use Rattle.smarts_mean.specs.Table.{HoldsIn}

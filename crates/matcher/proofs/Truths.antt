@@ -1,5 +1,5 @@
 -- At which atoms the expressions of a graph are true, as bits of words.
-use Rattle.std.proofs.Common.{◌≡◌, ◌↔◌, ◌∙◌, ◌+◌, ◌-◌, ◌*◌, ◌/◌, ◌%◌, ◌^◌, ◌<◌, ◌≤◌, ℕ, Bool, false, true, List, inl, inr, bit_and, bit_or, get_or, length, min, slice_get, slice_index, set, suc, None, Option, Some, All, ap, arith, refl, subst, sym, w64}
+use Rattle.std.proofs.Common.{◌≡◌, ◌↔◌, ◌∙◌, ◌+◌, ◌-◌, ◌*◌, ◌/◌, ◌%◌, ◌^◌, ◌<◌, ◌≤◌, ℕ, Bool, false, true, List, inl, inr, bit_and, bit_or, get_or, length, slice_get, slice_index, set, suc, None, Option, Some, All, ap, arith, refl, subst, sym, w64}
 use Rattle.std.specs.Int.{bit_at}
 use Rattle.std.specs.Int.{bit_not, from_bool}
 use Rattle.std.proofs.lemmas.Nat.Bits.{bit_at-lt, bit_at-zero, bit_at_and, bit_at_not, bit_at_or, bit_at-suc, bit_at_above, bit_at_lowest, bit_at_ones, bit_at_ones_above}

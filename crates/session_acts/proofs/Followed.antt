@@ -429,7 +429,7 @@ module _ (reading : OneReading) (whole : Calls) (free : AreFree whole) (size : �
             (append-nil hits) rest)
       ]
 
-  -- after so many pages, through a dialogue
+  -- after k pages, through a dialogue
   abbrev pub Turned_to : Calls → List Cursor → ℕ → Type 0
   Turned_to calls cursors k = (hits : List ℕ) × (f : Follows size calls cursors name pattern version hits)
       × (f.turned ≡ k) × (from : ℕ) × (f.c.place ≡ At from)

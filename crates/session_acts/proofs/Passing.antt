@@ -69,8 +69,8 @@ fetches_pass slot size other want place place' (c ∷ cs) apart (from, at, is, i
   fetches_pass slot size other want (cond k.1 End (At (past from k.0))) place' cs apart k.3,
 )
 
--- By these calls the cursor's pin was taken and not given back, so many pages of a size brought its search to where it
--- stands, and these are its hits
+-- By these calls the cursor's pin was taken and not given back, `turned` pages of a size brought its search to where
+-- it stands, and these are its hits
 pub record IsOpen (size turned : ℕ) (calls : Calls) (c : Cursor) (hits : List ℕ) : Type 0 where
   pub before : Calls
   pub pages : Calls
@@ -271,3 +271,10 @@ open_advances {size} {k} {calls} {c = c} {hits = hits} (Lost from at) o =
       },
       subst (IsOpen size k (calls ++ its) c) (sym (append-nil hits)) (open_passes its (refl, refl, tt) o),
     )
+
+-- the calls before, a search between its pin and its unpin, and the calls after
+pub cut_calls : (before pages after : Calls) (pin unpin : Event × Reply)
+    → before ++ ((pin ∷ (pages ++ unpin ∷ [])) ++ after) ≡ (before ++ pin ∷ pages) ++ unpin ∷ after
+cut_calls before pages after pin unpin =
+    ap (λ (l : Calls). before ++ pin ∷ l) (append_assoc pages (unpin ∷ []) after)
+    ∙ sym (append_assoc before (pin ∷ pages) (unpin ∷ after))

@@ -46,17 +46,11 @@ use Rattle.session_acts.proofs.Endings.{SameEnd, advance_end, fault_or_end, list
 use Rattle.session_acts.proofs.Found.{IsPrinted, NewFound, accepted_made, new_by, refused_found, same_by, same_found, similar_by, similar_found}
 use Rattle.session_acts.proofs.Followed.{Follows, follow_all, follow_new, places, turn_all}
 use Rattle.session_acts.proofs.Parting.{Laws, last_piece, pieces_so_far, some_pages, tried_so_far, whole_pages}
-use Rattle.session_acts.proofs.Passing.{IsOpen, advances_same, fault_or_more, fetches_keep, fetches_search, hits_listed, no_hit, one_in, open_advances, page_more, page_of}
+use Rattle.session_acts.proofs.Passing.{IsOpen, advances_same, cut_calls, fault_or_more, fetches_keep, fetches_search, hits_listed, no_hit, one_in, open_advances, page_more, page_of}
 use Rattle.session_acts.proofs.WatchActs.{new_apart, next_apart, of_cursors, same_apart, search_apart, similar_apart, start_apart}
 use Rattle.session_acts.proofs.Pinned.{AreFree, are_apart, dialogue_shown, next_calls, none}
 
 -- A search
-pub cut_calls : (before pages after : Calls) (pin unpin : Event × Reply)
-    → before ++ ((pin ∷ (pages ++ unpin ∷ [])) ++ after) ≡ (before ++ pin ∷ pages) ++ unpin ∷ after
-cut_calls before pages after pin unpin =
-    ap (λ (l : Calls). before ++ pin ∷ l) (append_assoc pages (unpin ∷ []) after)
-    ∙ sym (append_assoc before (pin ∷ pages) (unpin ∷ after))
-
 pub searches-are-hits : Laws → SearchesAreHits
 searches-are-hits laws s t steps own size pattern before its after lines sound run calm e found ended =
     let pin : Event × Reply = (events.Pin, replies.Pinned found.slot found.version) in

@@ -31,11 +31,11 @@ use Rattle.session_acts.proofs.Accepted.{accepted_call, stands_behind}
 use Rattle.session_acts.proofs.Acts.{OneReading, fits, quiet_ask, quiet_note}
 use Rattle.session_acts.proofs.Brought.{commit_of}
 use Rattle.session_acts.proofs.Parting.{Laws, whole_pages}
-use Rattle.session_acts.proofs.Passing.{behind_hits, fetches_keep, fetches_search, hits_listed, one_in}
+use Rattle.session_acts.proofs.Passing.{behind_hits, cut_calls, fetches_keep, fetches_search, hits_listed, one_in}
 use Rattle.dialogue.proofs.Exchanges.{exchanged-parts}
 use Rattle.session_acts.proofs.Pinned.{next_calls}
 use Rattle.session_acts.proofs.Rights.{IsKeptAs, IsRight, added_kept, added_new, added_right, none_some, noted_kept, noted_right, rebuilt_found, rebuilt_kept, rebuilt_right, same_some, without_kept, without_right}
-use Rattle.session_acts.proofs.Truth.{Finds, cursors_true, cut_calls, no_older, pages_true, parted, registrations_true, sames_true, searches_true, similars_true, spot}
+use Rattle.session_acts.proofs.Truth.{Finds, cursors_true, no_older, pages_true, parted, registrations_true, sames_true, searches_true, similars_true, spot}
 
 -- the command of a request that takes a watch out
 unwatch_command : (standing : Standing) (request : Request) (own : List ℕ)

@@ -1,4 +1,4 @@
-use Rattle.std.proofs.Common.{◌≡◌, ◌<◌, ap, arith, length, max, take}
+use Rattle.std.proofs.Common.{◌≡◌, ◌<◌, arith, length, max, take}
 use Rattle.std.proofs.lemmas.List.{length-map, take_all}
 use Rattle.smarts_parse.specs.Pattern.{bond_of, graph_of}
 use Rattle.matcher.specs.Counted.{is_sure}
