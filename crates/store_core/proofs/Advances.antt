@@ -1,5 +1,5 @@
 -- A change that is committed in memory or refused, by the states for which the store stands.
-use Rattle.std.proofs.Common.{◌≡◌, ◌≤◌, ◌∙◌, ap, arith, Err, IfErr, inl, IsErrAnd, length-append, [], ◌∷◌, None, Ok, Option, option_map, refl, Result, subst, sym, true, ℕ}
+use Rattle.std.proofs.Common.{◌≡◌, ◌≤◌, ◌<◌, ◌∙◌, ap, arith, Err, IfErr, inl, IsErrAnd, length-append, [], ◌∷◌, None, Ok, Option, option_map, refl, Result, subst, sym, true, ℕ}
 use Rattle.store_machine.specs.History.{id_of}
 use Rattle.store_machine.specs.Laws.{KeptIsRead, StatesStay}
 use Rattle.store_machine.specs.Machine.{MayAdd, committed, one_more}
@@ -10,12 +10,12 @@ use Rattle.store_core.specs.Calls.{Calls}
 use Rattle.record_versions.specs.Entries.{IsLatest, chain_of}
 use Rattle.store_core.specs.Kept.{Kept, status_of}
 use Rattle.store_core.specs.Prepared.{IsWhy}
-use Rattle.store_core.specs.Replies.{IsRefusal, change_of, commit_calls, refusal_by}
+use Rattle.store_core.specs.Replies.{IsRefusal, IsSoundChange, change_of, commit_calls, refusal_by}
 use Rattle.store_core.specs.Stored.{IsAt, StandsFor, StoreTerm, Stretches, served}
 use Rattle.store_core.specs.declared.words.Change.{Change}
 use Rattle.store_core.specs.declared.words.CommitFault.{CommitFault}
 use Rattle.store_core.specs.declared.words.CommitFault.TheVariants as fault
-use Rattle.store_core.proofs.Commits.{now-is}
+use Rattle.store_core.proofs.Commits.{may-add, now-is}
 use Rattle.store_core.proofs.OneCall.{one-call, serves, whole-sound}
 
 -- what a `?` returns is why
@@ -35,7 +35,7 @@ refused-why read stay store s c fault.Withdrawn o h e r = now-is read stay store
 refused-why read stay store s c fault.Full o h e r = absurd r
 refused-why read stay store s c (fault.DiskFault doubt) o h e r = absurd r
 refused-why read stay store s c fault.Worn o h e r = absurd r
-refused-why read stay store s c fault.NoMemory o h e r = tt
+refused-why read stay store s c fault.NoMemory o h e r = absurd r
 
 pub why-refused : {X : Type 0} → KeptIsRead → StatesStay
     → (store : StoreTerm) (c : Change) (f : CommitFault) (o : Option Kept) (r : Result X CommitFault)
@@ -54,6 +54,15 @@ why-full read stay store s c o h e allowed full = (
       ∙ allowed,
   omega (arith, full, h.version, h.limit),
 )
+
+pub why-memory : {X : Type 0} → KeptIsRead → StatesStay
+    → (store : StoreTerm) (c : Change) (o : Option Kept) (r : Result X CommitFault)
+    → IsErrAnd r (λ e. e ≡ fault.NoMemory)
+    → IsLatest store.version (chain_of store.kept.chains (id_of (change_of c))) o → IsSoundChange c
+    → refusal_by (option_map status_of o) c ≡ None → store.version < store.limit
+    → IfErr r (λ e. (s : State) → StandsFor store (served s) → IsWhy s (change_of c) e)
+why-memory read stay store c o r is e sound allowed room = why-result store c fault.NoMemory r is
+    (λ s h. may-add stay store s c h sound (now-is read stay store s c o h e ∙ allowed) room)
 
 -- both as answers of a service
 refused-row : (store new : StoreTerm) (s : State) (c : Change) (f : CommitFault) → IsAt store s → IsAt new s

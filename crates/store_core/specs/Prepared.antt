@@ -12,7 +12,7 @@ use Rattle.store_core.specs.declared.words.Change.{Change as Asked}
 use Rattle.store_core.specs.declared.words.CommitFault.{CommitFault}
 use Rattle.store_core.specs.declared.words.CommitFault.TheVariants as commit
 
--- why a change is not committed, by the state; want of memory may come at any state
+-- why a change is not committed, by the state; memory is wanted only for a change that may be added
 abbrev pub IsWhy : State → Change → CommitFault → Type 0
 IsWhy s c commit.Known = refusal (now s) c ≡ Some reply.Known
 IsWhy s c commit.Absent = refusal (now s) c ≡ Some reply.Absent
@@ -20,7 +20,7 @@ IsWhy s c commit.Withdrawn = refusal (now s) c ≡ Some reply.Withdrawn
 IsWhy s c commit.Full = IsAllowed (now s) c × (s.limit ≤ head s.history)
 IsWhy s c (commit.DiskFault doubt) = ⊥
 IsWhy s c commit.Worn = ⊥
-IsWhy s c commit.NoMemory = Unit {0}
+IsWhy s c commit.NoMemory = MayAdd s c
 
 -- the change may be added, and its memory was taken
 pub record IsPrepared (store : StoreTerm) (c : Asked) : Type 0 where

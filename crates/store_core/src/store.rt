@@ -18,7 +18,7 @@ ghost use Rattle.store_core.specs.States.{GoOn};
 ghost use Rattle.store_core.specs.Kept.{status_in};
 ghost use Rattle.store_core.specs.Prepared.{IsPrepared, IsWhy};
 ghost use Rattle.store_core.specs.Records.{IsRecord, Shared, founds};
-ghost use Rattle.store_core.specs.Replies.{change_of, compact_calls, fetch_calls};
+ghost use Rattle.store_core.specs.Replies.{change_of, commit_calls, compact_calls, fetch_calls};
 ghost use Rattle.store_core.specs.Steps.{AreSteps};
 ghost use Rattle.store_core.specs.Stored.{HoldsPin, IsAt, Served, StandsFor, Stretches, alone, empty, served};
 
@@ -310,7 +310,15 @@ impl Service for Store {
 
     ghost bounds = { λ _. (None, None) };
 
-    fn commit(&mut self, change: Change) -> Result<u32, CommitFault> {
+    fn commit(&mut self, change: Change) -> Result<u32, CommitFault>
+        ensures why { IfErr result (λ fault. (s : State) → StandsFor self.old (served s)
+            → IsWhy s (change_of change) fault) }
+        ensures call { (s : State) → IsAt self.old s
+            → Calls Stretches (λ _. true) self.old self.new s (commit_calls change result) }
+        ensures worn { WornAs ⊥ ⊥ (is_worn_out result) }
+        ensures held { SameHeld (HoldsPin self.old) (HoldsPin self.new) }
+        ensures bounds { NotRaised (None, None) (None, None) }
+    {
         self.prepare(&change)?;
         self.make(change);
         Ok(self.version)

@@ -83,7 +83,13 @@ module _ {D : Type 0} (model : DiskModel D)
   refused m s c fault.Worn h n why = absurd why
   refused m s c fault.NoMemory h n why = untouched m s (change_of c) reply.NoMemory h n (inl refl, inl refl, refl)
 
-  -- by the result of a `?`
+  -- by the result of a `?`: before the memory is asked, and after
+  pub wanting-result : (s : State) (c : Asked) (r : Result ℕ CommitFault) → IsErrAnd r (λ e. e ≡ fault.NoMemory)
+      → StandsFor model store s → Gone model store store s c r
+  wanting-result s c (Ok x) is h = absurd is
+  wanting-result s c (Err e) is h = subst (λ f. Gone model store store s c (Err f)) (sym is)
+      (untouched store.memory s (change_of c) reply.NoMemory h h (inl refl, inl refl, refl))
+
   pub refused-result : (m : Memory) (s : State) (c : Asked) (f : CommitFault) (r : Result ℕ CommitFault)
       → IsErrAnd r (λ e. e ≡ f) → memory.StandsFor m (served s) → StandsFor model store s
       → IsWhy s (change_of c) f → Gone model store (With m) s c r

@@ -2,7 +2,7 @@ use Rattle.std.proofs.Common.{◌∙◌, subst, sym}
 use Rattle.record_versions.specs.Entries.{IsLatest, chain_of}
 use Rattle.store_core.specs.Kept.{kept_of}
 use Rattle.store_core.specs.Stored.{served}
-use Rattle.store_core.proofs.Advances.{why-full, why-refused}
+use Rattle.store_core.proofs.Advances.{why-full, why-memory, why-refused}
 use Rattle.store_core.proofs.Commits.{may-add, now-is}
 use Rattle.store_core.proofs.Rows.{reserved-stands}
 use Rattle.store_core.proofs.store.Store.prepare.Goals as goal
@@ -21,6 +21,14 @@ returns-then-self-clause-why c =
     (λ s h. why-full c.laws.ensures.read c.laws.ensures.states _ s c.args.change.now (kept_of c.latest.result) h
     (subst (λ i. IsLatest c.self.inside.version (chain_of c.self.inside.kept.chains i) (kept_of c.latest.result))
     c.id-id.ensures.id c.latest.ensures) c.in_ok-check.ensures c.if-self.true)
+
+pub returns-in_err-reserve-clause-why : goal.returns-in_err-reserve-clause-why
+returns-in_err-reserve-clause-why c =
+    rw (sym c.self.view_is)
+    (why-memory c.laws.ensures.read c.laws.ensures.states _ c.args.change.now (kept_of c.latest.result)
+    c.from_residual-in_err-reserve.result c.from_residual-in_err-reserve.ensures.1
+    (subst (λ i. IsLatest c.self.inside.version (chain_of c.self.inside.kept.chains i) (kept_of c.latest.result))
+    c.id-id.ensures.id c.latest.ensures) c.id-id.ensures.sound c.in_ok-check.ensures c.if-self.false)
 
 pub invariant_of-self : goal.invariant_of-self
 invariant_of-self c =

@@ -3,7 +3,7 @@ use Rattle.journal_core.specs.Records.{IsShort}
 use Rattle.store_core.specs.Replies.{change_of}
 use Rattle.store_core.specs.Stored.{served}
 use Rattle.store_disk.specs.Copies.{copy_of, queued}
-use Rattle.store_disk.proofs.Commits.{commit-ready, done, faulted, refused-ready, refused-result}
+use Rattle.store_disk.proofs.Commits.{commit-ready, done, faulted, refused-ready, refused-result, wanting-result}
 use Rattle.store_disk.proofs.Payloads.{some-payload}
 use Rattle.store_disk.proofs.store.StoreService.commit.Goals as goal
 
@@ -11,16 +11,15 @@ pub returns-in_err-payload-clause-call : goal.returns-in_err-payload-clause-call
 returns-in_err-payload-clause-call g c =
     let d = g.D.Disk.model in
     rw (sym c.self.view_is)
-    (λ s h. refused-result d g.met.D.Disk.only_now c.laws.ensures.sound c.laws.ensures.heads _ c.laws.ensures.leaves
-    _ s c.args.change _ c.from_residual.result c.from_residual.ensures.1 h.memory.stands h tt)
+    (λ s h. wanting-result d g.met.D.Disk.only_now c.laws.ensures.sound c.laws.ensures.heads _ c.laws.ensures.leaves
+    s c.args.change c.from_residual.result c.from_residual.ensures.1 h)
 
 pub returns-in_err-reserve-clause-call : goal.returns-in_err-reserve-clause-call
 returns-in_err-reserve-clause-call g c =
     let d = g.D.Disk.model in
     rw (sym c.self.view_is, c.reserve.ensures.same)
-    (λ s h. refused-result d g.met.D.Disk.only_now c.laws.ensures.sound c.laws.ensures.heads _ c.laws.ensures.leaves
-    _ s c.args.change _ c.from_residual-in_err-reserve.result c.from_residual-in_err-reserve.ensures.1 h.memory.stands h
-    tt)
+    (λ s h. wanting-result d g.met.D.Disk.only_now c.laws.ensures.sound c.laws.ensures.heads _ c.laws.ensures.leaves
+    s c.args.change c.from_residual-in_err-reserve.result c.from_residual-in_err-reserve.ensures.1 h)
 
 pub returns-in_err-prepare-clause-call : goal.returns-in_err-prepare-clause-call
 returns-in_err-prepare-clause-call g c =
