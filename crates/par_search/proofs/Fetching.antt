@@ -146,6 +146,7 @@ module _ {S : Type 0} {of : meaning.Ghosts S} (slot size : ℕ) (want : List Boo
         records = ap (λ (l : Calls). records_of (fetched slot l)) (append-nil w.calls)
             ∙ (w.records ∙ ap founds_in (sym taken));
         tried = t ∙ (w.tried ∙ ap (λ l. length (records_in l)) (sym taken));
+        most = omega (arith, less, w.number, len, length-append w.calls []);
         full = λ k. absurd (some_fault g.fault (fault_of call.Worn) k e);
         whole = λ k. absurd (some_fault g.fault (fault_of call.Worn) k e);
         from = subst (λ (q : Option ℕ). IfSome q (λ n. n ≤ 1000000000)) (sym o) w.from;
@@ -170,6 +171,7 @@ module _ {S : Type 0} {of : meaning.Ghosts S} (slot size : ℕ) (want : List Boo
         small = subst AreSmall (sym taken) w.small;
         records = records_lost slot size from want w.calls ∙ (w.records ∙ ap founds_in (sym taken));
         tried = t ∙ (w.tried ∙ ap (λ l. length (records_in l)) (sym taken));
+        most = omega (arith, less, w.number, len, length-append w.calls (lost ∷ []));
         full = λ k. absurd (some_fault g.fault (fault_of call.NoMemory) k e);
         whole = λ k. absurd (some_fault g.fault (fault_of call.NoMemory) k e);
         from = subst (λ (q : Option ℕ). IfSome q (λ n. n ≤ 1000000000)) (sym o) w.from;

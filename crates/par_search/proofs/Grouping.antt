@@ -78,6 +78,7 @@ module _ {S : Type 0} {of : meaning.Ghosts S} (slot size : ℕ) (want : List Boo
           ap (λ l. length l) (flat_map-append (λ (p : PageTerm). p.records) ps (take g.count qs)),
           length-append (records_in ps) (records_in (take g.count qs)),
         );
+        most = omega (arith, a.most, b.most, length-append a.calls b.calls, length-append ps qs);
         full = λ k m. omega (
           arith,
           a.full e n,

@@ -1,5 +1,5 @@
 -- For callers: pages that are fetched one after another and searched together.
-use Rattle.std.specs.Prelude.{◌≡◌, ◌≢◌, None, Option, Some, length}
+use Rattle.std.specs.Prelude.{◌≡◌, ◌≢◌, ◌≤◌, None, Option, Some, length}
 use Rattle.std.specs.Borrow.{Fml, MutBor}
 use Rattle.std.specs.Io.BufRead.{Rests}
 use Rattle.smarts_parse.specs.Pattern.{pattern_of}
@@ -21,7 +21,7 @@ AreAnswered (Some fault.NoMemory) calls = ¬ ArePages calls
 AreAnswered (Some fault.Pins) calls = ⊥
 
 -- Fetches from the old place of the search to its new one, and the records of all their pages that its pattern matches.
--- There are `most` fetches, unless the search ended or met a fault
+-- There are at most `most` fetches, and as many as that unless the search ended or met a fault
 pub record IsBatch {S : Type 0} (of : meaning.Ghosts S) (old new : S) (search : SearchTerm) (batch : BatchHits)
     : Type 0 where
   pub calls : Calls
@@ -30,6 +30,7 @@ pub record IsBatch {S : Type 0} (of : meaning.Ghosts S) (old new : S) (search : 
   pub answered : AreAnswered batch.fault calls
   pub matched : AreMatched (pattern_of search.pattern) (records_of (fetched search.slot calls)) batch.hits.now
   pub tried : batch.tried ≡ length (records_of (fetched search.slot calls))
+  pub most : length calls ≤ search.most
   pub full : batch.fault ≡ None → batch.from ≢ None → length calls ≡ search.most
   pub worn : batch.fault ≡ Some fault.Worn → of.worn new
 

@@ -57,6 +57,7 @@ pub record HasFetched {S : Type 0} (of : meaning.Ghosts S) (old new : S) (slot s
   pub small : AreSmall (take result.count pages)
   pub records : records_of (fetched slot calls) ≡ founds (records_in (take result.count pages))
   pub tried : result.tried ≡ length (records_in (take result.count pages))
+  pub most : length calls ≤ length pages
   pub full : result.fault ≡ None → result.from ≢ None → length calls ≡ length pages
   pub whole : result.fault ≡ None → result.from ≢ None → result.count ≡ length pages
   pub from : IfSome result.from (λ n. n ≤ 1000000000)

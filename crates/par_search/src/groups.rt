@@ -15,10 +15,12 @@ use snap_registry::Pin;
 use std::thread::Threads;
 use store_core::{Page, Service};
 
-// The number of pages that are matched while the same number is fetched. No page is matched while the first group is
-// fetched, or fetched while the last one is matched. So a group is a small part of a batch. Matching a group takes far
-// longer than making the threads for it.
-const GROUP: usize = 8;
+// The number of pages of the first group. No page is matched while it is fetched, so it is small. Each later group has
+// as many pages as all before it, so that few groups make a batch: threads are made anew for each.
+const FIRST_GROUP: usize = 4;
+
+// The number of records that are fetched in the time of matching one.
+const FETCHED_FOR_ONE: u32 = 7;
 
 // A group of pages that were fetched and are not matched yet: from `start` to `end`, with `tried` records. The search
 // goes on after them from the identifier `from`, `None` at its end.
@@ -66,7 +68,7 @@ impl<R: Threads + Sync, M: Meter> Task<'_, R, M> {
             (vec_capacity hits.old) (vec_capacity hits.new) }
     {
         hits.clear();
-        let end = GROUP.min(pages.len());
+        let end = FIRST_GROUP.min(pages.len());
         let (first, _) = pages.split_at_mut(end);
         let mut fetched = fetch_pages(self.pin, self.want, self.size, from, service, first);
         let mut group = Group {
@@ -76,7 +78,7 @@ impl<R: Threads + Sync, M: Meter> Task<'_, R, M> {
             from: fetched.from,
         };
         while fetched.goes_on() && group.end < pages.len() {
-            let next = GROUP.min(pages.len() - group.end);
+            let next = group.end.max(FIRST_GROUP).min(pages.len() - group.end);
             let more = self.search_group(group, next, service, pages, workers, hits);
             group = Group {
                 start: group.end,
@@ -127,7 +129,8 @@ impl<R: Threads + Sync, M: Meter> Task<'_, R, M> {
     {
         let (done, behind) = pages.split_at_mut(group.end);
         let (ahead, _) = behind.split_at_mut(next);
-        let size = share_beside(group.tried, workers.len() as u32);
+        let most_ahead = self.size.saturating_mul(next as u32);
+        let size = share_beside(group.tried, most_ahead, workers.len() as u32);
         let shares = Shares {
             pages: between(done, group.start, group.end),
             total: group.tried,
@@ -147,15 +150,16 @@ impl<R: Threads + Sync, M: Meter> Task<'_, R, M> {
     }
 }
 
-// The number of records of a group for each worker but the last: an eighth more than its equal share. Fetching a record
-// takes about a seventh of the time of matching one, and the last worker's thread fetches a whole group.
-fn share_beside(total: u32, workers: u32) -> u32
+// The number of records of a group for each worker but the last: more than its equal share. Fetching a record takes
+// about a seventh of the time of matching one, and the last worker's thread fetches up to `ahead` of them too.
+fn share_beside(total: u32, ahead: u32, workers: u32) -> u32
     requires { 1 ≤ workers }
     ensures all { div_ceil total workers ≤ result }
     ensures few { result ≤ 2 * div_ceil total workers }
 {
     let equal = total.div_ceil(workers);
-    equal.saturating_add(equal / 8)
+    let more = (ahead / FETCHED_FOR_ONE).div_ceil(workers);
+    equal.saturating_add(more.min(equal))
 }
 
 // The pages from one place to another.
