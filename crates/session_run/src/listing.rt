@@ -1,5 +1,5 @@
 //! The pages of a search, listed: their hits as reply lines, and the numbers of identifiers tried and listed.
-ghost use Rattle.std.specs.Prelude.{◌≡◌, ◌++◌, IfSome, OnErr, OnOk, map};
+ghost use Rattle.std.specs.Prelude.{◌≡◌, ◌≤◌, ◌++◌, ◌^◌, ◌⊎◌, IfNone, IfSome, OnErr, OnOk, map};
 ghost use Rattle.shell_lang.specs.Reply as line;
 ghost use Rattle.shell_lang.specs.Reply.{reply_of, text_of};
 ghost use Rattle.session_run.specs.Made.{Uses};
@@ -95,6 +95,7 @@ impl Walk {
     ) -> Result<bool, Stop>
         requires held { S.holds service.old self.old.search.slot self.old.search.version }
         requires new { IsNew self.old }
+        requires together { 1 ≤ self.old.search.most }
         ensures { Listed (Uses S.Service service.old service.new) (S.worn service.new)
             self.old self.new out.old.items out.new.items result }
     {
@@ -135,8 +136,9 @@ impl Walk {
 
     /// The line at the search's end; `None` if a count exceeds 32 bits.
     pub fn end(&self) -> Option<Reply>
-        ensures { IfSome result
+        ensures some { IfSome result
             (λ reply. reply_of reply ≡ line.End self.now.search.version self.now.tried self.now.hits) }
+        ensures none { IfNone result ((2 ^ 32 ≤ self.now.tried) ⊎ (2 ^ 32 ≤ self.now.hits)) }
     {
         let tried = u32::try_from(self.tried).ok()?;
         let hits = u32::try_from(self.hits).ok()?;

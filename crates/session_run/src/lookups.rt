@@ -1,5 +1,5 @@
 //! Lookups of a session: records with the structure of a text, and those most similar to it.
-ghost use Rattle.std.specs.Prelude.{◌≡◌, ◌++◌, IfOk, List, OnErr, OnOk, map};
+ghost use Rattle.std.specs.Prelude.{◌≡◌, ◌≤◌, ◌++◌, ◌^◌, IfOk, List, OnErr, OnOk, map};
 ghost use Rattle.mol_finish.specs.declared.fault.Format.TheVariants.{Smiles};
 ghost use Rattle.shell_lang.specs.Command.{IsSimilarity};
 ghost use Rattle.shell_lang.specs.Reply.{text_of};
@@ -178,7 +178,8 @@ fn push_likes(likes: &[(u32, u32, u32)], out: &mut Vec<u8>) -> Result<(), AllocE
 
 /// A length as the count of a line. It fits for each list of a store.
 pub fn count(len: usize) -> Result<u32, AllocError>
-    ensures { IfOk result (λ n. n ≡ len) }
+    ensures ok { IfOk result (λ n. n ≡ len) }
+    ensures err { OnErr result (2 ^ 32 ≤ len) }
 {
     match u32::try_from(len) {
         Ok(n) => Ok(n),

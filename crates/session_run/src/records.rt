@@ -1,6 +1,6 @@
 //! The texts of the molfiles and records that a line takes, or why there is no text. No more bytes of a text are kept
 //! than a text with a structure may have, and no bytes of a line that is too long.
-ghost use Rattle.std.specs.Prelude.{◌≡◌, ◌≤◌, ◌<◌, ◌++◌, ◌∷◌, [], ◌*◌, ◌+◌, length, List, min, OnErr, OnOk, Option, slice_get, Some, ℕ};
+ghost use Rattle.std.specs.Prelude.{◌≡◌, ◌≤◌, ◌<◌, ◌++◌, ◌∷◌, [], ◌*◌, ◌+◌, length, List, min, not, OnErr, OnOk, Option, slice_get, Some, ℕ};
 ghost use Rattle.io_edge.specs.Lines.{TextLine, TooLong, Whole};
 ghost use Rattle.session_acts.specs.Records.{counted};
 ghost use Rattle.dialogue.specs.Dialogue.{IsPrefixOf};
@@ -182,7 +182,8 @@ impl SdTexts {
 
     /// Forgets the records and frees their memory. If no text is `wanted`, no more records are kept.
     pub fn begin(&mut self, wanted: bool)
-        ensures { AreTaken [] self.new }
+        ensures none { AreTaken [] self.new }
+        ensures full { self.new.full ≡ not wanted }
     {
         self.kept = Vec::new(self.alloc);
         self.texts = Vec::new(self.alloc);

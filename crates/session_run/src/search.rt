@@ -1,5 +1,5 @@
 //! A search from its pin to its end.
-ghost use Rattle.std.specs.Prelude.{◌≤◌, IfOk};
+ghost use Rattle.std.specs.Prelude.{◌≡◌, ◌≤◌, IfOk};
 ghost use Rattle.par_search.specs.Searches.{HasBegun};
 ghost use Rattle.par_search.specs.declared.batch.TheConstants.{MOST_PAGES};
 ghost use Rattle.shell_lang.specs.Reply.{reply_of};
@@ -36,6 +36,7 @@ pub fn begin<S: Service>(
     ensures begins { Begins (Uses S.Service service.old service.new) (S.worn service.new) result }
     ensures begun { IfOk result (λ walk. HasBegun pattern settings.now.page walk.search) }
     ensures new { IfOk result (λ walk. IsNew walk) }
+    ensures most { IfOk result (λ walk. walk.search.most ≡ most) }
 {
     match Search::start_batched(
         alloc,
@@ -94,6 +95,7 @@ pub fn list<R: Threads + Sync, S: Service, M: Meter>(
 ) -> Result<(), Stop>
     requires held { S.holds service.old walk.search.slot walk.search.version }
     requires new { IsNew walk }
+    requires together { 1 ≤ walk.search.most }
     ensures { AnsweredBy S.Service service.old service.new (PinAnswer walk.search)
         out.old.items out.new.items tt result }
 {

@@ -15,7 +15,7 @@ pub returns-in-Ok-give_back : goal.returns-in-Ok-give_back
 returns-in-Ok-give_back g c =
     ended_said (λ xs ys a b. uses-more g.met.S.Service.joins g.met.S.Service.lands g.met.S.Service.same a b)
     c.in-Ok.whole c.end-end.result c.last_line.result c.say.result c.in-Ok.ensures c.in-Ok-give_back.ensures
-    c.end-end.ensures c.last_line.ensures c.say.ensures
+    c.end-end.ensures.some c.last_line.ensures c.say.ensures
 
 pub returns-in-Err-give_back : goal.returns-in-Err-give_back
 returns-in-Err-give_back g c =

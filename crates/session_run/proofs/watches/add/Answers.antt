@@ -12,7 +12,7 @@ pub returns-in-Ok-add : goal.returns-in-Ok-add
 returns-in-Ok-add c = inl (
   added_seen c.args.name.now c.args.pattern c.args.list.version c.args.list.hits.items _ _ c.in-Ok-add.ensures.ok,
   subst (λ (n : ℕ). Tells (line.Watching c.args.list.version n) c.args.out.now.items c.say-in-Ok-add.new.out.items c.say-in-Ok-add.result)
-      (c.in-Ok.ensures ∙ (c.len.ensures ∙ c.args.list.hits.ok.0)) c.say-in-Ok-add.ensures,
+      (c.in-Ok.ensures.ok ∙ (c.len.ensures ∙ c.args.list.hits.ok.0)) c.say-in-Ok-add.ensures,
 )
 
 pub returns-in-Err : goal.returns-in-Err

@@ -11,7 +11,7 @@ returns-in-Some-Records c =
     let taken = rw c.in-Some-Records.field-0-is at c.in-Some-Records.ensures.some in
     let takes = taken.0.1 in
     let h = records_begun c.in-Some-Records.count c.begin.new.self c.clear.new.self.items takes.1.1 c.clear.ensures.items
-    c.begin.ensures in (
+    c.begin.ensures.none in (
       (c.args.line.now, taken.0.0, [], refl, takes, taken.1, h),
       records_by h false c.args.line.now taken.0.0 takes
           (λ f. absurd (false_is_not_true f), λ e. absurd (omega (arith, e, takes.1.0))),
