@@ -11,7 +11,7 @@ use arrayvec::ArrayVec;
 use std::marker::Model;
 use std::sync::Arc;
 
-// Records whose texts are read side by side. Where an identifier was withdrawn there is none.
+// Records whose texts are read side by side. If an identifier was withdrawn there is none.
 type Gathered<'a> = ArrayVec<Option<&'a Arc<Record>>, 256>;
 
 /// The states of a store at a version, by identifier ascending. Contracts see the store, the version, and the entries

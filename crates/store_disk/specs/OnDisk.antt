@@ -31,7 +31,7 @@ pub record StoreTerm (D : Type 0) : Type 0 where
   pub pair : Paired D
   pub copy : Option CopyTerm
 
--- A copy of which so many items are missing. Its items are the base records, and then the commits.
+-- A copy of which the last `left` items are missing. Its items are the base records, and then the commits.
 abbrev pub lacking : ℕ → Written → Written
 lacking left whole = record whole {
   base = take (length whole.base + length whole.commits - left) whole.base;

@@ -86,7 +86,7 @@ impl<D: Disk + Drop> Store<D> {
         )
     }
 
-    /// The copy that runs, which lacks nothing, takes the place of the disk that is read. Where the disk fails, it is
+    /// The copy that runs, which lacks nothing, takes the place of the disk that is read. If the disk fails, it is
     /// given up.
     pub(crate) fn finish(&mut self) -> Result<Compact, CompactFault>
         requires { IsSomeAnd self.old.copy (λ c. left c ≡ 0) }

@@ -19,7 +19,7 @@ pub(crate) struct Copying {
 }
 
 impl Copying {
-    /// It lacks each of so many states. Takes no memory.
+    /// It lacks each of `states` states. Takes no memory.
     pub(crate) fn new(alloc: Global, version: u32, states: u32) -> Copying
         ensures { copy_of result ≡ record {
           version = version;

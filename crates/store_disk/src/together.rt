@@ -22,7 +22,7 @@ use std::alloc::{AllocError, Global};
 use std::thread::Threads;
 use store_core::{MOST_COMMITS, Store as Memory};
 
-// The commits whose texts are read together are those of so many bytes of the journal, and one more.
+// Bytes of the journal whose commits are read together, with one commit more.
 const BATCH: u64 = 262_144;
 
 /// As `replay`, by at most `workers` threads. The texts of some commits are read together, by several threads if they

@@ -65,7 +65,7 @@ fn journal(
     Ok(file)
 }
 
-// What is opened of a file by so many workers; by `load`, where there are none.
+// What is opened of a file by this number of workers; by `load`, if there are none.
 fn opened<R: Threads + Sync>(
     rt: &R,
     alloc: Global,
