@@ -1,7 +1,7 @@
 -- For callers: the acts for a request, and their answers. An act makes calls, with their replies in order, has reply
--- lines, and leaves cursors and watches. A command allows certain acts. A memory fault may replace any reply. The
--- request has then done nothing, but a search may have listed some of its hits, and a step of a compaction may have
--- written some of its items.
+-- lines, and leaves cursors and watches. A command allows certain acts. A memory fault may replace most replies, and
+-- after some calls alone. The request has then done nothing, but a search may have listed some of its hits, and a step
+-- of a compaction may have written some of its items.
 use Rattle.std.specs.Prelude.{◌≡◌, ◌≢◌, ◌⊎◌, ◌≤◌, ◌<◌, ℕ, suc, ◌+◌, Bool, true, false, if◌then◌else◌, List, [], ◌∷◌, ◌++◌, length, map, Option, None, Some, Result, Ok, Err}
 use Rattle.chem_core.specs.Molecule.{Molecule}
 use Rattle.io_edge.specs.Lines.{TextLine, Whole}
@@ -325,9 +325,15 @@ pub data DoesWatch (size : ℕ) (watches : List Watched) : Act → Calls → Lin
   TakenOut : (name : List ℕ) (w : Watched) (named : watch_of name watches ≡ Some w)
       → DoesWatch size watches (Unwatch name) [] (line.Unwatched ∷ []) (without name watches)
 
+-- Memory is taken before this call of a command without a text, and may run out: a commit, for the watches that follow
+-- it
+abbrev pub TakesMemory : Event → Type 0
+TakesMemory (events.Commit change) = Unit {0}
+TakesMemory _ = ⊥
+
 -- The acts that a command allows. First one call, without a text
 abbrev pub MayAsk : Event → Act → Type 0
-MayAsk event (Say Fault) = Unit {0}
+MayAsk event (Say Fault) = TakesMemory event
 MayAsk event (Ask other) = other ≡ event
 MayAsk event _ = ⊥
 
@@ -390,7 +396,6 @@ MaySimilar p q k text _ = ⊥
 
 -- a look at a data item
 abbrev pub MayFind : ℕ → List ℕ → Act → Type 0
-MayFind id name (Say Fault) = Unit {0}
 MayFind id name (FindData own_id own_name) = (own_id ≡ id) × (own_name ≡ name)
 MayFind id name _ = ⊥
 

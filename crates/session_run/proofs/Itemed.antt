@@ -6,14 +6,15 @@ use Rattle.store_core.specs.Calls.{NotRaised, SameHeld}
 use Rattle.store_core.specs.declared.service.Service as meaning
 use Rattle.store_machine.specs.declared.machine.Event.TheVariants as events
 use Rattle.store_machine.specs.declared.machine.Reply.{Reply}
+use Rattle.store_machine.specs.declared.machine.Reply.TheVariants as replies
 use Rattle.store_machine.specs.declared.machine.State.{State}
-use Rattle.session_acts.specs.Acts.{Answers, Fault, FindData, FoundData, IsDataLine, MayFind, item_line}
+use Rattle.session_acts.specs.Acts.{Answers, FindData, FoundData, IsDataLine, MayFind, item_line}
 use Rattle.session_acts.specs.Cursors.{Cursor}
 use Rattle.session_run.specs.Made.{AnsweredBy, Tells}
 use Rattle.dialogue.specs.declared.end.Stop.{Stop}
 use Rattle.dialogue.specs.declared.end.Stop.TheVariants as stops
 use Rattle.session_run.proofs.Joined.{uses-kept}
-use Rattle.session_run.proofs.Lines.{broken, noted, said}
+use Rattle.session_run.proofs.Lines.{broken, said}
 
 -- what was written of an item
 pub item_told : (id : ℕ) (found : Option (Bor (List ℕ))) (data_is : Option (List ℕ)) (out out' : List ℕ)
@@ -45,5 +46,9 @@ module _ {S : Type 0} {of : meaning.Ghosts S} {old new : S} {size : ℕ} {cursor
       → SameHeld (of.holds old) (of.holds new) → NotRaised (of.bounds old) (of.bounds new) → of.worn new
       → AnsweredBy of old new (Answers size (MayFind id name) cursors) out out' cursors (Err stops.Worn)
   unfound id name made held bounds worn =
-      broken [] (line.MemoryFault ∷ []) cursors (Err stops.Worn) (uses-kept [] made tt held bounds) worn
-      (noted Fault tt) refl
+      broken ((events.Look id, replies.NoMemory) ∷ []) (line.MemoryFault ∷ []) cursors (Err stops.Worn)
+      (uses-kept [] made tt held bounds) worn (record {
+        act = FindData id name;
+        allowed = (refl, refl);
+        does = FoundData id name replies.NoMemory line.MemoryFault refl;
+      }) refl

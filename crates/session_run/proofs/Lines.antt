@@ -101,22 +101,23 @@ module _ {S : Type 0} {of : meaning.Ghosts S} {old new : S} {size : ℕ} {Allowe
     {out out' : List ℕ} where
   pub asked : (event : Event) (calls : Calls) (worn : Bool) (given : Result written.Reply Stop)
       (result : Result (Unit {0}) Stop) → ((r : Reply) → effect event r ≡ Leaves)
-      → Allowed (Ask event) → Allowed (Say Fault)
+      → Allowed (Ask event) → (other : Reply) → (one : line.Reply) → IsLineOf event other one
       → ((s : State) → of.at old s → core.Calls of.stretch (of.owns old) old new s calls)
       → SameHeld (of.holds old) (of.holds new) → NotRaised (of.bounds old) (of.bounds new)
       → (worn ≡ true → of.worn new) → Gives event calls worn given → Writes given out out' result
       → AnsweredBy of old new (Answers size Allowed cursors) out out' cursors result
-  asked event calls worn (Ok reply) result leaves may lacks made held bounds is_worn g w =
+  asked event calls worn (Ok reply) result leaves may other one answers made held bounds is_worn g w =
       let l = in_line event calls (reply_of reply) g in
       said ((event, l.0) ∷ []) (reply_of reply) result
       (uses-kept ((event, l.0) ∷ []) (subst (λ (cs : Calls). (s : State) → of.at old s
       → core.Calls of.stretch (of.owns old) old new s cs) l.1 made) (leaves l.0, tt) held bounds)
       (record { act = Ask event; allowed = may; does = Asks event l.0 (reply_of reply) l.2 }) w
-  asked event calls worn (Err stops.Worn) result leaves may lacks made held bounds is_worn g w =
-      broken [] (line.MemoryFault ∷ []) cursors result
+  asked event calls worn (Err stops.Worn) result leaves may other one answers made held bounds is_worn g w =
+      broken ((event, other) ∷ []) (one ∷ []) cursors result
       (uses-kept [] (subst (λ (cs : Calls). (s : State) → of.at old s
-      → core.Calls of.stretch (of.owns old) old new s cs) g.0 made) tt held bounds) (is_worn g.1) (noted Fault lacks) w
-  asked event calls worn (Err stops.NoMemory) result leaves may lacks made held bounds is_worn g w = absurd g
+      → core.Calls of.stretch (of.owns old) old new s cs) g.0 made) tt held bounds) (is_worn g.1)
+      (record { act = Ask event; allowed = may; does = Asks event other one answers }) w
+  asked event calls worn (Err stops.NoMemory) result leaves may other one answers made held bounds is_worn g w = absurd g
 
   -- where no search began
   pub unbegun : (fault : SearchFault) (given : Result written.Reply Stop) (result : Result (Unit {0}) Stop)

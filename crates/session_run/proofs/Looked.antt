@@ -317,7 +317,7 @@ module _ {size : ℕ} {Allowed : Act → Type 0} {cursors : List Cursor} (change
           allowed = a.allowed;
           does = inl (a.does, over-append calls its w w x.watches (looks_still w found.lookup) d.1);
         }
-    by may (inr d) = absurd (asks_no_watch _ _ may (watch_is d.0))
+    by {act = act} may (inr d) = absurd (asks_no_watch (events.Commit change) act may (watch_is d.0))
 
   pub registered_from : {First Next All : Calls → Type 0} {IsWorn : Type 0} {out out' : List ℕ} {w w' : List Watched}
       {result : Result (Unit {0}) Stop} → ((xs ys : Calls) → First xs → Next ys → All (xs ++ ys)) → First calls
