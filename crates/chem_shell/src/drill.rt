@@ -1,8 +1,8 @@
 //! `drill`: sessions on a store in memory whose disks are stopped, failed and reopened.
 ghost use Rattle.std.specs.Prelude.{◌≢◌};
-ghost use Rattle.drill_run.specs.Drilled.{IsDrilledBy};
+ghost use Rattle.dialogue.specs.Talked.{EndsAs, IsServedBy};
+ghost use Rattle.drill_run.specs.Talking.{begun, drills};
 ghost use Rattle.session_acts.specs.Cursors.{Calls};
-ghost use Rattle.session_acts.specs.Served.{EndsAs};
 ghost use Rattle.chem_shell.specs.Drills.{AreOfDrill, ServesDrill};
 ghost use Rattle.chem_shell.specs.Ends.{HasEndCauses};
 ghost use Rattle.chem_shell.specs.Words.{IsWithinLimits};
@@ -44,7 +44,7 @@ fn run_drill<R: Threads + Sync, I: Source, O: Sink>(
 ) -> EndStatus
     requires { IsWithinLimits plan.now }
     ensures drills { (calls : Calls) × AreOfDrill plan.now.commits calls
-        × IsDrilledBy result plan.now.page (I.left source.old) (I.left source.new)
+        × IsServedBy drills result (begun plan.now.page) (I.left source.old) (I.left source.new)
         (O.written sink.old) (O.written sink.new) calls }
     ensures not_worn { result ≢ EndStatus.Worn }
     ensures ends { EndsAs I.Source O.Sink result INPUT_LIMIT source.old source.new sink.old sink.new }

@@ -1,11 +1,12 @@
 -- What lines do to a world and to the sessions.
-use Rattle.std.proofs.Common.{◌≡◌, ◌≤◌, ◌<◌, ◌+◌, ◌-◌, ◌++◌, ◌∙◌, ap, arith, Err, get_or, inl, inr, length, List, [], ◌∷◌, map, Ok, Option, refl, Result, set, Some, subst, suc, sym, zero, ℕ}
+use Rattle.std.proofs.Common.{◌≡◌, ◌≤◌, ◌<◌, ◌+◌, ◌-◌, ◌^◌, ◌++◌, ◌∙◌, ap, arith, Err, get_or, inl, inr, length, List, [], ◌∷◌, map, None, Ok, Option, refl, Result, set, Some, subst, suc, sym, zero, ℕ}
 use Rattle.std.specs.List.{AllByRecursion}
-use Rattle.std.specs.Prelude.{IfOk, IsErr, OnErr, OnOk, Vec}
+use Rattle.std.specs.Prelude.{IsErr, OnErr, OnOk, Vec, if◌then◌else◌, is_ok}
 use Rattle.std.specs.declared.alloc.Global.{Global}
+use Rattle.std.specs.declared.alloc.AllocError.{AllocError}
 use Rattle.std.proofs.lemmas.Bool.{true≢false}
 use Rattle.std.proofs.lemmas.List.{map-append}
-use Rattle.std.specs.declared.alloc.AllocError.{AllocError}
+use Rattle.dialogue.specs.declared.end.Stop.TheVariants as stops
 use Rattle.disk_edge.specs.Medium.{model}
 use Rattle.disk_pair.specs.Term.{disk_a, disk_b}
 use Rattle.drill_core.specs.Faults.{FaultsAreCounted, disk_faults}
@@ -25,7 +26,6 @@ use Rattle.session_run.specs.Standings.{standing_of}
 use Rattle.session_run.specs.Walks.{cursors_of}
 use Rattle.session_run.specs.declared.respond.Responder.{Responder}
 use Rattle.session_run.specs.declared.settings.Settings.{Settings}
-use Rattle.dialogue.specs.declared.end.Stop.TheVariants as stops
 use Rattle.shell_lang.specs.Command.{TakesLines}
 use Rattle.shell_lang.specs.CommandView.{Takes}
 use Rattle.shell_lang.specs.Reply.{text_of}
@@ -41,62 +41,94 @@ use Rattle.store_machine.specs.declared.machine.State.{State}
 use Rattle.store_machine.specs.declared.machine.Times.{Times}
 use Rattle.store_disk.specs.InMemory.{StandsInMemory}
 use Rattle.store_disk.specs.Stored.{stays}
-use Rattle.drill_run.specs.Causes.{Tally, faults_in, tally_after}
-use Rattle.drill_run.specs.Dialogue.{AllKept, Does, IsOwnAnswer, lines_refused, reopened_text}
-use Rattle.drill_run.specs.Lines.{DrillLine, Reads, Reopen, Session}
+use Rattle.drill_run.specs.Acts.{AllKept, Does, IsOwnAnswer, all_of, forgotten, lines_refused, reopened_text}
+use Rattle.drill_run.specs.Causes.{MayFail, Tally, faults_in, nothing_set, tally_after}
+use Rattle.drill_run.specs.Lines.{DrillLine, Empty, Fail, Reads, Reopen, Session, Stop}
 use Rattle.drill_run.specs.Numbers.{numbered}
-use Rattle.drill_run.specs.Turns as turns
-use Rattle.drill_run.specs.Turns.{AnswersOwn, AreReady, Breaks, Goes, IsSessionOf, IsTallied, Uses, WorldTerm, all_of}
+use Rattle.drill_run.specs.Runs.{RunsTo}
+use Rattle.drill_run.specs.TalkLaws.{can_close, runs-none}
+use Rattle.drill_run.specs.Talking as talking
+use Rattle.drill_run.specs.Talking.{IsAnswer, Kept}
+use Rattle.drill_run.specs.Talks.{AnswersLine, AnswersOwn, AreReady, IsDrilling, IsReady, IsSessionOf, IsTallied, Made, Uses, WorldTerm, kept_of}
 use Rattle.drill_run.specs.Views.{kept_in}
 use Rattle.drill_run.specs.declared.line.TheConstants.{SESSIONS}
 use Rattle.drill_run.specs.declared.sessions.Sessions.{Sessions}
 use Rattle.drill_run.proofs.Events.{calm-events, same-faults}
-use Rattle.drill_run.proofs.Turning.{cut_off}
 use Rattle.drill_run.proofs.Tallies.{tally-new, tally-session}
 use Rattle.drill_run.proofs.Pins.{session-held, sessions-held}
 
--- nothing is asked of the store's machine
-pub says : (size : ℕ) (line : TextLine) (read : Option DrillLine) (old new : WorldTerm) (all : AllKept)
-    (text : List ℕ) → Reads line read → Does size line read all [] text all
-    → ((s : State) → StandsInMemory old s → StandsInMemory new s)
-    → ((t : Tally) → IsTallied t old → IsTallied (tally_after t read []) new)
-    → Goes size line old new all all text
-says size line read old new all text reads does stands tallied = record {
-  exchange = record { line = line; read = read; calls = []; text = text };
-  line_is = refl;
-  text_is = refl;
-  is = (reads, does);
-  runs = λ s at. ([], s, refl, refl, stands s at);
-  tallied = λ t h small. (inl refl, tallied t h);
+-- a line was answered, and its answer is said, unless memory ran out for that
+pub answered : (result : Result (Unit {0}) AllocError) (b : Sessions) (slot : Option WorldTerm) (new : WorldTerm)
+    (kept kept' : Kept) (line : TextLine) (n : ℕ) (calls : Calls) (said : talking.Said) → Made slot (Some new) calls
+    → IsAnswer kept line calls said kept' → IsDrilling b (Some new) kept' [] (n + 1)
+    → OnOk result (b.out.items ≡ said.text) → AnswersLine result b slot (Some new) kept line n
+answered (Ok u) b slot new kept kept' line n calls said made is ready out = record {
+  calls = calls;
+  reply = said;
+  kept' = kept';
+  made = made;
+  answers = (line, refl, is);
+  said = out;
+  ready = ready;
+}
+answered (Err fault) b slot new kept kept' line n calls said made is ready out = record {
+  calls = calls;
+  kept' = kept';
+  made = made;
+  cuts = (line, refl, inl (said, is));
+  closable = can_close b (Some new) kept' [] (n + 1) ready;
 }
 
--- memory ran out for the reply: all was done, and nothing is put
-pub lost : {size : ℕ} {line : TextLine} {old new : WorldTerm} {all all' : AllKept} {text : List ℕ}
-    → Goes size line old new all all' text → Breaks size line old all []
-lost {text = text} g = cut_off g [] text refl
+fails-after : (t : Tally) (read : Option DrillLine) (calls : Calls) → (tally_after t read calls).fails ≤ t.fails + 1
+fails-after t (Some Empty) calls = omega arith
+fails-after t (Some (Session number line)) calls = omega arith
+fails-after t (Some (Stop disk calls_left)) calls = omega arith
+fails-after t (Some (Fail disk call)) calls = omega arith
+fails-after t (Some (Reopen image)) calls = omega arith
+fails-after t None calls = omega arith
 
-pub lost-by : (a b : Sessions) (old : WorldTerm) (line : TextLine) (r : Result WorldTerm AllocError) → IsErr r
-    → Breaks a.settings.page line old (kept_in a.responders.items) [] → turns.Answered a b old line r
-lost-by a b old line (Ok after) is h = absurd (true≢false (sym is))
-lost-by a b old line (Err fault) is h = h
+pub not-ok : {A E : Type 0} (P : Type 0) (r : Result A E) → IsErr r → OnOk r P
+not-ok P (Ok u) is = absurd (true≢false (sym is))
+not-ok P (Err e) is = tt
 
--- the text that is put is that of the answer
-pub goes-as : {size : ℕ} {line : TextLine} {old new : WorldTerm} {all all' : AllKept} {text said : List ℕ}
-    → said ≡ text → Goes size line old new all all' text → Goes size line old new all all' said
-goes-as {size} {line} {old} {new} {all} {all'} e g =
-    subst (λ (t : List ℕ). Goes size line old new all all' t) (sym e) g
+-- what follows a text that was empty
+pub said-alone : (result : Result (Unit {0}) AllocError) (out out' text : List ℕ) → out ≡ []
+    → OnOk result (out' ≡ out ++ text) → OnOk result (out' ≡ text)
+said-alone (Ok u) out out' text empty h = h ∙ ap (λ (l : List ℕ). l ++ text) empty
+said-alone (Err e) out out' text empty h = tt
 
--- the sessions stay
-pub ready-same : (old new : WorldTerm) (a b : Sessions) → AreReady old a
-    → ((s : State) → StandsInMemory old s → StandsInMemory new s) → new.memory ≡ old.memory
-    → b.responders ≡ a.responders → b.settings ≡ a.settings → AreReady new b
-ready-same old new a b h stands memory responders settings = record {
-  state = h.state;
-  stands = stands h.state h.stands;
-  number = ap (λ (l : Vec Responder Global). length l.items) responders ∙ h.number;
-  fit = rw (responders, settings) h.fit;
-  held = rw (responders, memory) h.held;
-}
+pub appended-alone : (result : Result (Unit {0}) AllocError) (out out' text : List ℕ) → out ≡ []
+    → out' ≡ (if is_ok result then out ++ text else out) → OnOk result (out' ≡ text)
+appended-alone (Ok u) out out' text empty h = h ∙ ap (λ (l : List ℕ). l ++ text) empty
+appended-alone (Err e) out out' text empty h = tt
+
+-- a line for which the world is asked nothing
+module _ (a b : Sessions) (old new : WorldTerm) (line : TextLine) (read : Option DrillLine) (text : List ℕ)
+    (reads : Reads line read)
+    (does : Does a.settings.page line read (kept_in a.responders.items) [] text (kept_in a.responders.items))
+    (stands : (s : State) → StandsInMemory old s → StandsInMemory new s) (memory : new.memory ≡ old.memory)
+    (tallied : (t : Tally) → IsTallied t old → IsTallied (tally_after t read []) new)
+    (responders : b.responders ≡ a.responders) (settings : b.settings ≡ a.settings) where
+  pub quiet : (result : Result (Unit {0}) AllocError) → OnOk result (b.out.items ≡ text) → (tally : Tally) (n : ℕ)
+      → IsReady a old tally n → AnswersLine result b (Some old) (Some new) (kept_of a tally) line n
+  quiet result out tally n h =
+      answered result b (Some old) new (kept_of a tally) (kept_of a (tally_after tally read [])) line n []
+      (record { read = read; text = text }) (runs-none old (StandsInMemory new) stands)
+      (record { reads = reads; does = does; caused = inl refl; page_is = refl; tally_is = refl })
+      (record {
+        kept_is = rw (responders, settings) refl;
+        ready = record {
+          state = h.state;
+          stands = stands h.state h.stands;
+          number = ap (λ (l : Vec Responder Global). length l.items) responders ∙ h.number;
+          fit = rw (responders, settings) h.fit;
+          held = rw (responders, memory) h.held;
+          tallied = tallied tally h.tallied;
+          few = omega (arith, fails-after tally read [], h.few);
+        };
+        taken = tt;
+      })
+      out
 
 -- a session's line was answered, as a session answers it, by the service of a world
 module _ {size : ℕ} {own : List ℕ} {old new : WorldTerm} {kept kept' : Standing}
@@ -121,6 +153,24 @@ module _ {size : ℕ} {own : List ℕ} {old new : WorldTerm} {kept kept' : Stand
       → AnsweredBy of old new (RequestAnswer size kept (record { line = Whole own; more = [] })) [] out kept'
       (Err stops.NoMemory) → AnswersOwn size own old new kept kept'
   own-unsaid out (Unsaid did) = of-did did
+
+-- the same where the world may be gone
+pub quiet-at : (a b : Sessions) (slot : Option WorldTerm) (line : TextLine) (read : Option DrillLine) (text : List ℕ)
+    → Reads line read
+    → Does a.settings.page line read (kept_in a.responders.items) [] text (kept_in a.responders.items)
+    → ((t : Tally) → tally_after t read [] ≡ t) → b.responders ≡ a.responders → b.settings ≡ a.settings
+    → (result : Result (Unit {0}) AllocError) → OnOk result (b.out.items ≡ text) → (tally : Tally) (n : ℕ)
+    → AreReady a slot tally n → AnswersLine result b slot slot (kept_of a tally) line n
+quiet-at a b None line read text reads does same responders settings result out tally n h = absurd h
+quiet-at a b (Some world) line read text reads does same responders settings result out tally n h =
+    quiet a b world world line read text reads does (λ s at. at) refl
+    (λ t k. subst (λ (x : Tally). IsTallied x world) (sym (same t)) k) responders settings result out tally n h
+
+-- the events of calls
+pub uses-runs : {old new : WorldTerm} {calls : Calls} → Uses old new calls → RunsTo old calls (StandsInMemory new)
+uses-runs u = λ s at.
+    let m = u.makes.made s at in
+    (m.steps, m.after, m.stands.run, sym (calm-events m.steps m.stands.calm) ∙ m.own, m.stands.ends)
 
 -- a service that is never worn
 pub never-worn : {Made : Calls → Type 0} {IsWorn : Type 0} {Is : Calls → Lines → Standing → Type 0}
@@ -184,58 +234,13 @@ own-keeps {size} {own} {old} {new} {kept} {kept'} a h = by a.is where
         others = same_others before after kept.cursors now;
       })
   by (inr r) =
-      let then = HeldAfter before a.calls in record {
-        are_held = held-same then after kept'.cursors a.uses.pins.now
+      let since = HeldAfter before a.calls in record {
+        are_held = held-same since after kept'.cursors a.uses.pins.now
             (all_held before r.1.does a.uses.pins.apart h);
-        others = same_others-more before then after kept.cursors kept'.cursors kept'.cursors
+        others = same_others-more before since after kept.cursors kept'.cursors kept'.cursors
             (all_others before r.1.does a.uses.pins.apart)
-            (same_others then after kept'.cursors a.uses.pins.now);
+            (same_others since after kept'.cursors a.uses.pins.now);
       }
-
--- what it does of the drill
-pub goes-session : {size : ℕ} {own : List ℕ} {old new : WorldTerm} {kept kept' : Standing}
-    (a : AnswersOwn size own old new kept kept') (line : TextLine) (number : ℕ) (before after : AllKept)
-    (all all' : AllKept) → FaultsAreCounted → (s : State) → StandsInMemory old s
-    → Reads line (Some (Session number own)) → all ≡ before ++ kept ∷ after → number ≡ length before + 1
-    → all' ≡ before ++ kept' ∷ after → Goes size line old new all all' (numbered number (text_of a.lines))
-goes-session {size} {own} {old} {new} {kept} {kept'} a line number before after all all' counted s at reads place is
-    left =
-    let k = a.uses.makes.made s at in record {
-      exchange = record {
-        line = line;
-        read = Some (Session number own);
-        calls = a.calls;
-        text = numbered number (text_of a.lines);
-      };
-      line_is = refl;
-      text_is = refl;
-      is = (
-        reads,
-        record {
-          before = before;
-          standing = kept;
-          standing' = kept';
-          after = after;
-          lines = a.lines;
-          place = place;
-          number_is = is;
-          answer = a.is;
-          said = refl;
-          left = left;
-        },
-      );
-      runs = λ t here.
-          let m = a.uses.makes.made t here in
-          (m.steps, m.after, m.stands.run, sym (calm-events m.steps m.stands.calm) ∙ m.own, m.stands.ends);
-      tallied = λ t h small.
-          let same : faults_in a.calls ≡ disk_faults k.steps =
-          ap faults_in (sym k.own ∙ calm-events k.steps k.stands.calm) ∙ same-faults k.steps in
-          tally-session t (disk_a old.pair).failures (disk_b old.pair).failures (disk_a new.pair).failures
-          (disk_b new.pair).failures a.calls h small a.uses.bounds
-          (λ few-a few-b.
-          let sum = counted old new s k.after k.steps k.stands (omega (arith, few-a), omega (arith, few-b)) in
-          omega (arith, sum, same));
-    }
 
 -- An element in its place among others
 pub record IsAt {X : Type 0} (xs : List X) (i : ℕ) (x : X) : Type 0 where
@@ -258,45 +263,17 @@ at-place (x ∷ xs) (suc i) d less = let h = at-place xs i d (omega (arith, less
   changed = λ y. ap (λ l. x ∷ l) (h.changed y);
 }
 
-pub all-at : {X : Type 0} (P : X → Type 0) (xs ys : List X) (x : X) → AllByRecursion P (xs ++ x ∷ ys) → P x
+all-at : {X : Type 0} (P : X → Type 0) (xs ys : List X) (x : X) → AllByRecursion P (xs ++ x ∷ ys) → P x
 all-at P [] ys x h = h.0
 all-at P (z ∷ xs) ys x h = all-at P xs ys x h.1
 
-pub all-set : {X : Type 0} (P : X → Type 0) (xs ys : List X) (x y : X) → AllByRecursion P (xs ++ x ∷ ys) → P y
+all-set : {X : Type 0} (P : X → Type 0) (xs ys : List X) (x y : X) → AllByRecursion P (xs ++ x ∷ ys) → P y
     → AllByRecursion P (xs ++ y ∷ ys)
 all-set P [] ys x y h p = (p, h.1)
 all-set P (z ∷ xs) ys x y h p = (h.0, all-set P xs ys x y h.1 p)
 
 pub kept-append : (xs ys : List Responder) → kept_in (xs ++ ys) ≡ kept_in xs ++ kept_in ys
 kept-append xs ys = map-append _ xs ys
-
--- ---- the answers of the sessions, whole
-
--- a line for which the machine is asked nothing
-module _ (a b : Sessions) (old new : WorldTerm) (line : TextLine) (read : Option DrillLine) (text : List ℕ)
-    (ready : AreReady old a) (empty : a.out.items ≡ []) (reads : Reads line read)
-    (does : Does a.settings.page line read (kept_in a.responders.items) [] text (kept_in a.responders.items))
-    (stands : (s : State) → StandsInMemory old s → StandsInMemory new s) (memory : new.memory ≡ old.memory)
-    (tallied : (t : Tally) → IsTallied t old → IsTallied (tally_after t read []) new) where
-  goes-quiet : Goes a.settings.page line old new (kept_in a.responders.items) (kept_in a.responders.items) text
-  goes-quiet = says a.settings.page line read old new (kept_in a.responders.items) text reads does stands tallied
-
-  pub quiet : b.responders ≡ a.responders → b.settings ≡ a.settings → b.out.items ≡ a.out.items ++ text
-      → turns.Answered a b old line (Ok new)
-  quiet responders settings out = (
-    goes-as (out ∙ ap (λ (l : List ℕ). l ++ text) empty)
-        (subst (λ (r : Vec Responder Global). Goes a.settings.page line old new (kept_in a.responders.items)
-        (kept_in r.items) text) (sym responders) goes-quiet),
-    ready-same old new a b ready stands memory responders settings,
-    settings,
-  )
-
-  pub quiet-by : b.responders ≡ a.responders → b.settings ≡ a.settings → (result : Result WorldTerm AllocError)
-      → IfOk result (λ after. (after ≡ new) × (b.out.items ≡ a.out.items ++ text))
-      → turns.Answered a b old line result
-  quiet-by responders settings (Ok after) h =
-      subst (λ (w : WorldTerm). turns.Answered a b old line (Ok w)) (sym h.0) (quiet responders settings h.1)
-  quiet-by responders settings (Err fault) h = lost goes-quiet
 
 -- a reopening
 abbrev no_time : Times
@@ -305,205 +282,216 @@ no_time = record { a = 0; b = 0 }
 abbrev none_kept : Responder → Standing
 none_kept r = nothing_kept
 
-module _ (a b : Sessions) (old : WorldTerm) (line : TextLine) (image : ℕ) (ready : AreReady old a)
-    (empty : a.out.items ≡ []) (reads : Reads line (Some (Reopen image))) where
-  module _ (new : WorldTerm) (x y : List ℕ) (version : ℕ)
-      (reopens : (s : State) → StandsInMemory old s → Reopens s x y new version) (unset : HasNoFailures new) where
-    goes-open : (none : kept_in b.responders.items ≡ map none_kept a.responders.items)
-        → Goes a.settings.page line old new (kept_in a.responders.items) (kept_in b.responders.items)
-        (reopened_text version)
-    goes-open none = record {
-      exchange = record {
-        line = line;
-        read = Some (Reopen image);
-        calls = (Crash, Crashed) ∷ (Open, Opened version) ∷ [];
-        text = reopened_text version;
-      };
-      line_is = refl;
-      text_is = refl;
-      is = (reads, (version, refl, refl, none ∙ sym (none-again a.responders.items)));
-      runs = λ s at. let r = reopens s at in (
+none-again : (xs : List Responder) → forgotten (kept_in xs) ≡ map none_kept xs
+none-again [] = refl
+none-again (x ∷ xs) = ap (λ (l : AllKept). nothing_kept ∷ l) (none-again xs)
+
+none-open : (all : AllKept) → all_of (forgotten all) ≡ []
+none-open [] = refl
+none-open (x ∷ xs) = none-open xs
+
+-- nothing is kept
+abbrev cleared : Sessions → Kept
+cleared a =
+    record { page = a.settings.page; all = forgotten (kept_in a.responders.items); tally = nothing_set }
+
+module _ (a b : Sessions) (old : WorldTerm) (line : TextLine) (image : ℕ) (tally : Tally) (n : ℕ)
+    (ready : IsReady a old tally n) (reads : Reads line (Some (Reopen image))) where
+  pub opened-by : (new : WorldTerm) (x y : List ℕ) (version : ℕ)
+      → ((s : State) → StandsInMemory old s → Reopens s x y new version) → HasNoFailures new
+      → length b.responders.items ≡ length a.responders.items
+      → AllByRecursion (IsSessionOf a.settings) b.responders.items
+      → kept_in b.responders.items ≡ map none_kept a.responders.items → b.settings ≡ a.settings
+      → (result : Result (Unit {0}) AllocError) → OnOk result (b.out.items ≡ reopened_text version)
+      → AnswersLine result b (Some old) (Some new) (kept_of a tally) line n
+  opened-by new x y version reopens unset number fit none settings result out =
+      let all : kept_in b.responders.items ≡ forgotten (kept_in a.responders.items) =
+      none ∙ sym (none-again a.responders.items) in
+      answered result b (Some old) new (kept_of a tally) (cleared a) line n
+      ((Crash, Crashed) ∷ (Open, Opened version) ∷ [])
+      (record { read = Some (Reopen image); text = reopened_text version })
+      (λ s at. let r = reopens s at in (
         reopening s r.after no_time no_time no_time,
         r.after,
         r.run no_time no_time no_time,
         ap (λ (n : ℕ). (Crash, Crashed) ∷ (Open, Opened n) ∷ []) (sym r.version),
         r.stands,
-      );
-      tallied = λ t h small. (
-        inl refl,
-        tally-new (disk_a new.pair).failures (disk_b new.pair).failures unset.0 unset.1,
-      );
-    } where
-      none-again : (xs : List Responder) → map (λ _. nothing_kept) (kept_in xs) ≡ map none_kept xs
-      none-again [] = refl
-      none-again (x ∷ xs) = ap (λ (l : AllKept). nothing_kept ∷ l) (none-again xs)
+      ))
+      (record {
+        reads = reads;
+        does = (version, refl, refl, refl);
+        caused = inl refl;
+        page_is = refl;
+        tally_is = refl;
+      })
+      (record {
+        kept_is = ap (λ (l : AllKept). record { page = a.settings.page; all = l; tally = nothing_set }) (sym all)
+            ∙ ap (λ (s : Settings). record { page = s.page; all = kept_in b.responders.items; tally = nothing_set })
+            (sym settings);
+        ready = record {
+          state = (reopens ready.state ready.stands).after;
+          stands = (reopens ready.state ready.stands).stands;
+          number = number ∙ ready.number;
+          fit = subst (λ (k : Settings). AllByRecursion (IsSessionOf k) b.responders.items) (sym settings) fit;
+          held = subst (AreHeld (HoldsPin new.memory)) (sym (ap all_of all ∙ none-open (kept_in a.responders.items)))
+              tt;
+          tallied = tally-new (disk_a new.pair).failures (disk_b new.pair).failures unset.0 unset.1;
+          few = omega arith;
+        };
+        taken = tt;
+      })
+      out
 
-    none-held : (xs : List Responder) → all_of (map none_kept xs) ≡ []
-    none-held [] = refl
-    none-held (x ∷ xs) = none-held xs
-
-    pub opened-again : length b.responders.items ≡ length a.responders.items
-        → AllByRecursion (IsSessionOf a.settings) b.responders.items
-        → kept_in b.responders.items ≡ map none_kept a.responders.items → b.settings ≡ a.settings
-        → b.out.items ≡ a.out.items ++ reopened_text version → turns.Answered a b old line (Ok new)
-    opened-again number fit none settings out = (
-      goes-as (out ∙ ap (λ (l : List ℕ). l ++ reopened_text version) empty) (goes-open none),
-      record {
-        state = (reopens ready.state ready.stands).after;
-        stands = (reopens ready.state ready.stands).stands;
-        number = number ∙ ready.number;
-        fit = subst (λ (k : Settings). AllByRecursion (IsSessionOf k) b.responders.items) (sym settings) fit;
-        held = subst (AreHeld (HoldsPin new.memory)) (sym (ap all_of none ∙ none-held a.responders.items)) tt;
-      },
-      settings,
-    )
-
-    pub opened-by : length b.responders.items ≡ length a.responders.items
-        → AllByRecursion (IsSessionOf a.settings) b.responders.items
-        → kept_in b.responders.items ≡ map none_kept a.responders.items → b.settings ≡ a.settings
-        → (result : Result WorldTerm AllocError)
-        → IfOk result (λ after. (after ≡ new) × (b.out.items ≡ a.out.items ++ reopened_text version))
-        → turns.Answered a b old line result
-    opened-by number fit none settings (Ok after) h =
-        subst (λ (w : WorldTerm). turns.Answered a b old line (Ok w)) (sym h.0)
-        (opened-again number fit none settings h.1)
-    opened-by number fit none settings (Err fault) h = lost (goes-open none)
-
-  -- memory ran out, and nothing was done
-  pub unopened : (result : Result WorldTerm AllocError) → IsErr result → turns.Answered a b old line result
-  unopened result failed = lost-by a b old line result failed (record {
-    whole = record {
-      line = line;
-      read = Some (Reopen image);
-      calls = (Crash, Crashed) ∷ (Open, Opened 0) ∷ [];
-      text = reopened_text 0;
-    };
-    cut = record { line = line; read = Some (Reopen image); calls = []; text = [] };
-    all' = map (λ _. nothing_kept) (kept_in a.responders.items);
-    line_is = refl;
-    text_is = refl;
-    is = (reads, (0, refl, refl, refl));
-    cut_of = record {
-      line = refl;
-      read = refl;
-      calls = ((Crash, Crashed) ∷ (Open, Opened 0) ∷ [], refl);
-      text = (reopened_text 0, refl);
-    };
-    runs = λ s at. ([], s, refl, refl, tt);
-    tallied = λ t h small. inl refl;
-  })
+  -- memory ran out, and the world is gone
+  pub unopened : (result : Result (Unit {0}) AllocError) → IsErr result
+      → AnswersLine result b (Some old) None (kept_of a tally) line n
+  unopened (Ok u) is = absurd (true≢false (sym is))
+  unopened (Err fault) is = record {
+    calls = [];
+    kept' = cleared a;
+    made = λ s at. ([], s, refl, refl, tt);
+    cuts = (line, refl, inr (image, reads, refl, refl));
+    closable = none-open (kept_in a.responders.items);
+  }
 
 -- a session's line
-module _ (a : Sessions) (rs : List Responder) (old new : WorldTerm) (number : ℕ) (own : List ℕ) (r r' : Responder)
-    (ready : AreReady old a) (counted : FaultsAreCounted) (some : 1 ≤ number) (few : number ≤ SESSIONS)
-    (is : r ≡ get_or a.responders.items (number - 1) r) (written : rs ≡ set a.responders.items (number - 1) r')
-    (fit : IsFit r'.cursors) (same : r'.cursors.settings ≡ r.cursors.settings)
-    (sized : AnswersOwn a.settings.page own old new (standing_of r) (standing_of r'))
-  where
-    within : number - 1 < length a.responders.items
-    within = omega (arith, ready.number, some, few)
+module _ (a b : Sessions) (rs : List Responder) (old new : WorldTerm) (number : ℕ) (own : List ℕ) (r r' : Responder)
+    (tally : Tally) (n : ℕ) (ready : IsReady a old tally n) (counted : FaultsAreCounted) (some : 1 ≤ number)
+    (few : number ≤ SESSIONS) (is : r ≡ get_or a.responders.items (number - 1) r)
+    (written : rs ≡ set a.responders.items (number - 1) r') (fit : IsFit r'.cursors)
+    (same : r'.cursors.settings ≡ r.cursors.settings)
+    (sized : AnswersOwn a.settings.page own old new (standing_of r) (standing_of r')) where
+  within : number - 1 < length a.responders.items
+  within = omega (arith, ready.number, some, few)
 
-    place : IsAt a.responders.items (number - 1) r
-    place = subst (IsAt a.responders.items (number - 1)) (sym is) (at-place a.responders.items (number - 1) r within)
+  place : IsAt a.responders.items (number - 1) r
+  place = subst (IsAt a.responders.items (number - 1)) (sym is) (at-place a.responders.items (number - 1) r within)
 
-    of-session : IsSessionOf a.settings r
-    of-session = all-at (IsSessionOf a.settings) place.before place.after r
-        (subst (AllByRecursion (IsSessionOf a.settings)) place.place ready.fit)
+  of-session : IsSessionOf a.settings r
+  of-session = all-at (IsSessionOf a.settings) place.before place.after r
+      (subst (AllByRecursion (IsSessionOf a.settings)) place.place ready.fit)
 
-    left : rs ≡ place.before ++ r' ∷ place.after
-    left = written ∙ place.changed r'
+  left : rs ≡ place.before ++ r' ∷ place.after
+  left = written ∙ place.changed r'
 
-    before : kept_in a.responders.items ≡ kept_in place.before ++ standing_of r ∷ kept_in place.after
-    before = ap kept_in place.place ∙ kept-append place.before (r ∷ place.after)
+  before : kept_in a.responders.items ≡ kept_in place.before ++ standing_of r ∷ kept_in place.after
+  before = ap kept_in place.place ∙ kept-append place.before (r ∷ place.after)
 
-    after : kept_in rs ≡ kept_in place.before ++ standing_of r' ∷ kept_in place.after
-    after = ap kept_in left ∙ kept-append place.before (r' ∷ place.after)
+  after : kept_in rs ≡ kept_in place.before ++ standing_of r' ∷ kept_in place.after
+  after = ap kept_in left ∙ kept-append place.before (r' ∷ place.after)
 
-    number-at : (xs : List Responder) → length (kept_in xs) ≡ length xs
-    number-at [] = refl
-    number-at (x ∷ xs) = ap suc (number-at xs)
+  number-at : (xs : List Responder) → length (kept_in xs) ≡ length xs
+  number-at [] = refl
+  number-at (x ∷ xs) = ap suc (number-at xs)
 
-    goes-asked : (line : TextLine) → Reads line (Some (Session number own))
-        → Goes a.settings.page line old new (kept_in a.responders.items) (kept_in rs)
-        (numbered number (text_of sized.lines))
-    goes-asked line reads =
-        goes-session sized line number (kept_in place.before) (kept_in place.after)
-        (kept_in a.responders.items) (kept_in rs) counted ready.state ready.stands reads before
-        (omega (arith, some, place.number, number-at place.before)) after
+  length-changed : (xs ys : List Responder) → length (xs ++ r' ∷ ys) ≡ length (xs ++ r ∷ ys)
+  length-changed [] ys = refl
+  length-changed (x ∷ xs) ys = ap suc (length-changed xs ys)
 
-    length-changed : (xs ys : List Responder) → length (xs ++ r' ∷ ys) ≡ length (xs ++ r ∷ ys)
-    length-changed [] ys = refl
-    length-changed (x ∷ xs) ys = ap suc (length-changed xs ys)
+  held-before : AreHeld (HoldsPin old.memory)
+      (all_of (kept_in place.before ++ standing_of r ∷ kept_in place.after))
+  held-before = subst (λ (c : AllKept). AreHeld (HoldsPin old.memory) (all_of c)) before ready.held
 
-    held-before : AreHeld (HoldsPin old.memory)
-        (all_of (kept_in place.before ++ standing_of r ∷ kept_in place.after))
-    held-before = subst (λ (c : AllKept). AreHeld (HoldsPin old.memory) (all_of c)) before ready.held
+  held-own : AreHeld (HoldsPin old.memory) (cursors_of (opened r.cursors))
+  held-own = session-held (HoldsPin old.memory) (kept_in place.before) (kept_in place.after) (standing_of r)
+      held-before
 
-    held-own : AreHeld (HoldsPin old.memory) (cursors_of (opened r.cursors))
-    held-own = session-held (HoldsPin old.memory) (kept_in place.before) (kept_in place.after) (standing_of r)
-        held-before
+  held-after : AreHeld (HoldsPin new.memory) (all_of (kept_in rs))
+  held-after = subst (λ (c : AllKept). AreHeld (HoldsPin new.memory) (all_of c)) (sym after)
+      (sessions-held (HoldsPin old.memory) (HoldsPin new.memory) (kept_in place.before) (kept_in place.after)
+      (standing_of r) (standing_of r') (own-keeps sized held-own) held-before)
 
-    held-after : AreHeld (HoldsPin new.memory) (all_of (kept_in rs))
-    held-after = subst (λ (c : AllKept). AreHeld (HoldsPin new.memory) (all_of c)) (sym after)
-        (sessions-held (HoldsPin old.memory) (HoldsPin new.memory) (kept_in place.before) (kept_in place.after)
-        (standing_of r) (standing_of r') (own-keeps sized held-own) held-before)
+  fit-after : AllByRecursion (IsSessionOf a.settings) rs
+  fit-after = subst (AllByRecursion (IsSessionOf a.settings)) (sym left)
+      (all-set (IsSessionOf a.settings) place.before place.after r r'
+      (subst (AllByRecursion (IsSessionOf a.settings)) place.place ready.fit) (fit, same ∙ of-session.1))
 
-    fit-after : AllByRecursion (IsSessionOf a.settings) rs
-    fit-after = subst (AllByRecursion (IsSessionOf a.settings)) (sym left)
-        (all-set (IsSessionOf a.settings) place.before place.after r r'
-        (subst (AllByRecursion (IsSessionOf a.settings)) place.place ready.fit) (fit, same ∙ of-session.1))
+  number-after : length rs ≡ SESSIONS
+  number-after =
+      ap length left
+      ∙ (length-changed place.before place.after ∙ (sym (ap length place.place) ∙ ready.number))
 
-    number-after : length rs ≡ SESSIONS
-    number-after =
-        ap length left
-        ∙ (length-changed place.before place.after ∙ (sym (ap length place.place) ∙ ready.number))
+  -- its disk faults are allowed
+  counts : n + 1 < 2 ^ 64 → MayFail tally (faults_in sized.calls)
+      × IsTallied (record tally { faults = tally.faults + faults_in sized.calls }) new
+  counts small =
+      let k = sized.uses.makes.made ready.state ready.stands in
+      let faults : faults_in sized.calls ≡ disk_faults k.steps =
+      ap faults_in (sym k.own ∙ calm-events k.steps k.stands.calm) ∙ same-faults k.steps in
+      tally-session tally (disk_a old.pair).failures (disk_b old.pair).failures (disk_a new.pair).failures
+      (disk_b new.pair).failures sized.calls ready.tallied (omega (arith, ready.few, small)) sized.uses.bounds
+      (λ few-a few-b.
+      let sum = counted old new ready.state k.after k.steps k.stands (omega (arith, few-a), omega (arith, few-b)) in
+      omega (arith, sum, faults))
 
-    ready-asked : (b : Sessions) → b.responders.items ≡ rs → b.settings ≡ a.settings → AreReady new b
-    ready-asked b is settings =
-        let k = sized.uses.makes.made ready.state ready.stands in record {
+  pub asked : (line : TextLine) → Reads line (Some (Session number own)) → n + 1 < 2 ^ 64
+      → b.responders.items ≡ rs → b.settings ≡ a.settings
+      → (result : Result (Unit {0}) AllocError) → OnOk result (b.out.items ≡ numbered number (text_of sized.lines))
+      → AnswersLine result b (Some old) (Some new) (kept_of a tally) line n
+  asked line reads small those settings result out =
+      let k = sized.uses.makes.made ready.state ready.stands in
+      let tally' = record tally { faults = tally.faults + faults_in sized.calls } in
+      answered result b (Some old) new (kept_of a tally)
+      (record { page = a.settings.page; all = kept_in rs; tally = tally' }) line n sized.calls
+      (record { read = Some (Session number own); text = numbered number (text_of sized.lines) })
+      (uses-runs sized.uses)
+      (record {
+        reads = reads;
+        does = record {
+          before = kept_in place.before;
+          standing = standing_of r;
+          standing' = standing_of r';
+          after = kept_in place.after;
+          lines = sized.lines;
+          place = before;
+          number_is = omega (arith, some, place.number, number-at place.before);
+          answer = sized.is;
+          said = refl;
+          left = after;
+        };
+        caused = (counts small).0;
+        page_is = refl;
+        tally_is = refl;
+      })
+      (record {
+        kept_is = ap (λ (l : List Responder). record { page = a.settings.page; all = kept_in l; tally = tally' })
+            (sym those)
+            ∙ ap (λ (s : Settings). record { page = s.page; all = kept_in b.responders.items; tally = tally' })
+            (sym settings);
+        ready = record {
           state = k.after;
           stands = k.stands.ends;
-          number = ap length is ∙ number-after;
-          fit = subst (λ (xs : List Responder). AllByRecursion (IsSessionOf b.settings) xs) (sym is)
+          number = ap length those ∙ number-after;
+          fit = subst (λ (xs : List Responder). AllByRecursion (IsSessionOf b.settings) xs) (sym those)
               (subst (λ (k : Settings). AllByRecursion (IsSessionOf k) rs) (sym settings) fit-after);
-          held = subst (λ (xs : List Responder). AreHeld (HoldsPin new.memory) (all_of (kept_in xs))) (sym is)
+          held = subst (λ (xs : List Responder). AreHeld (HoldsPin new.memory) (all_of (kept_in xs))) (sym those)
               held-after;
-        }
-
-    pub asked : (b : Sessions) (line : TextLine) → b.responders.items ≡ rs → b.settings ≡ a.settings
-        → Reads line (Some (Session number own)) → a.out.items ≡ [] → (out : List ℕ) → out ≡ text_of sized.lines
-        → b.out.items ≡ a.out.items ++ numbered number out → turns.Answered a b old line (Ok new)
-    asked b line is settings reads empty out said wrote = (
-      goes-as (wrote ∙ (ap (λ (l : List ℕ). l ++ numbered number out) empty ∙ ap (numbered number) said))
-          (subst (λ (xs : List Responder). Goes a.settings.page line old new (kept_in a.responders.items)
-          (kept_in xs) (numbered number (text_of sized.lines))) (sym is) (goes-asked line reads)),
-      ready-asked b is settings,
-      settings,
-    )
-
-    -- memory ran out for the reply
-    pub asked-lost : (line : TextLine) → Reads line (Some (Session number own))
-        → Breaks a.settings.page line old (kept_in a.responders.items) []
-    asked-lost line reads = lost (goes-asked line reads)
+          tallied = (counts small).1;
+          few = omega (arith, ready.few);
+        };
+        taken = tt;
+      })
+      out
 
 -- the session that is asked
-pub asks-settings : (a : Sessions) (old : WorldTerm) (number : ℕ) (r : Responder) → AreReady old a → 1 ≤ number
-    → number ≤ SESSIONS → r ≡ get_or a.responders.items (number - 1) r → a.settings.page ≡ r.cursors.settings.page
-asks-settings a old number r ready some few is =
-    let less : number - 1 < length a.responders.items = omega (arith, ready.number, some, few) in
-    let p = subst (IsAt a.responders.items (number - 1)) (sym is) (at-place a.responders.items (number - 1) r less) in
-    sym (ap (λ (k : Settings). k.page) (all-at (IsSessionOf a.settings) p.before p.after r
-    (subst (AllByRecursion (IsSessionOf a.settings)) p.place ready.fit)).1)
+module _ {a : Sessions} {old : WorldTerm} {tally : Tally} {n : ℕ} (ready : IsReady a old tally n) (number : ℕ)
+    (r : Responder) (some : 1 ≤ number) (few : number ≤ SESSIONS)
+    (is : r ≡ get_or a.responders.items (number - 1) r) where
+  its-place : IsAt a.responders.items (number - 1) r
+  its-place = subst (IsAt a.responders.items (number - 1)) (sym is)
+      (at-place a.responders.items (number - 1) r (omega (arith, ready.number, some, few)))
 
-pub asks-fit : (a : Sessions) (old : WorldTerm) (number : ℕ) (r : Responder) → AreReady old a → 1 ≤ number
-    → number ≤ SESSIONS → r ≡ get_or a.responders.items (number - 1) r
-    → IsFit r.cursors × AreHeld (HoldsPin old.memory) (cursors_of (opened r.cursors))
-asks-fit a old number r ready some few is =
-    let less : number - 1 < length a.responders.items = omega (arith, ready.number, some, few) in
-    let p = subst (IsAt a.responders.items (number - 1)) (sym is) (at-place a.responders.items (number - 1) r less) in (
-      (all-at (IsSessionOf a.settings) p.before p.after r
-          (subst (AllByRecursion (IsSessionOf a.settings)) p.place ready.fit)).0,
-      session-held (HoldsPin old.memory) (kept_in p.before) (kept_in p.after) (standing_of r)
-          (subst (λ (c : AllKept). AreHeld (HoldsPin old.memory) (all_of c))
-          (ap kept_in p.place ∙ kept-append p.before (r ∷ p.after)) ready.held),
-    )
+  its-fit : IsSessionOf a.settings r
+  its-fit = all-at (IsSessionOf a.settings) its-place.before its-place.after r
+      (subst (AllByRecursion (IsSessionOf a.settings)) its-place.place ready.fit)
+
+  pub asks-settings : a.settings.page ≡ r.cursors.settings.page
+  asks-settings = sym (ap (λ (k : Settings). k.page) its-fit.1)
+
+  pub asks-fit : IsFit r.cursors × AreHeld (HoldsPin old.memory) (cursors_of (opened r.cursors))
+  asks-fit = (
+    its-fit.0,
+    session-held (HoldsPin old.memory) (kept_in its-place.before) (kept_in its-place.after) (standing_of r)
+        (subst (λ (c : AllKept). AreHeld (HoldsPin old.memory) (all_of c))
+        (ap kept_in its-place.place ∙ kept-append its-place.before (r ∷ its-place.after)) ready.held),
+  )

@@ -1,14 +1,11 @@
-pub mod Continued
-pub mod Lists
 pub mod Reading
 pub mod Pins
 pub mod Events
 pub mod Tallies
-pub mod Scripts
+pub mod Asked
 pub mod Answering
-pub mod Numbering
+pub mod Closing
 pub mod Making
-pub mod Turning
 pub mod Reopened
 pub mod OwnPins
 pub mod Reowned

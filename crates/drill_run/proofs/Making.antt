@@ -9,8 +9,8 @@ use Rattle.session_run.specs.Standings.{both, standing_of, watched_all}
 use Rattle.session_run.specs.Walks.{AreSized, cursors_of}
 use Rattle.session_run.specs.declared.respond.Responder.{Responder}
 use Rattle.session_run.specs.declared.settings.Settings.{Settings}
-use Rattle.drill_run.specs.Dialogue.{AllKept}
-use Rattle.drill_run.specs.Turns.{IsSessionOf}
+use Rattle.drill_run.specs.Acts.{AllKept}
+use Rattle.drill_run.specs.Talks.{IsSessionOf}
 use Rattle.drill_run.specs.Views.{kept_in}
 
 -- a session without cursors, whose settings are within the limits

@@ -2,7 +2,7 @@
 -- sessions' numbers, before it and after it.
 use Rattle.std.proofs.Common.{◌≡◌, ◌+◌, ◌==◌, ◌⊎◌, ◌++◌, ◌∙◌, ap, eq-eqb, eqb-true, false, inl, inr, length, List, [], ◌∷◌, None, Option, refl, Some, subst, sym, true, ℕ}
 use Rattle.std.proofs.lemmas.Bool.{true≢false}
-use Rattle.io_edge.specs.Lines.{Whole}
+use Rattle.io_edge.specs.Lines.{TextLine, Whole}
 use Rattle.session_acts.specs.Acts.{Lines, RequestAnswer}
 use Rattle.session_acts.specs.Cursors.{Calls}
 use Rattle.session_acts.specs.Talking as session
@@ -17,9 +17,10 @@ use Rattle.store_machine.specs.Runs.{IsCalm, IsRun, calls_of}
 use Rattle.store_machine.specs.declared.machine.Held.{Held}
 use Rattle.store_machine.specs.declared.machine.State.{State}
 use Rattle.store_machine.specs.declared.machine.Step.{Step}
-use Rattle.drill_run.specs.Dialogue as drill
-use Rattle.drill_run.specs.Dialogue.{AllKept, Does, Exchange}
-use Rattle.drill_run.specs.Drilled.{events_of}
+use Rattle.drill_run.specs.Acts as drill
+use Rattle.drill_run.specs.Acts.{AllKept, Does}
+use Rattle.drill_run.specs.Runs.{events_of}
+use Rattle.drill_run.specs.Talking.{Exchange}
 use Rattle.drill_run.specs.Lines.{DrillLine, Empty, Fail, Reopen, Session, Stop}
 use Rattle.drill_run.specs.Numbers.{numbered}
 use Rattle.drill_run.specs.Truths.{IsOwn, IsOwnAs, IsReopen}
@@ -77,9 +78,9 @@ module _ (law : PinsStay) (size number n : ℕ) (x : Exchange) (before after : A
     (kept kept' : Standing) (line : List ℕ) (lines : Lines) (s t : State) (ps : List Held)
     (steps : List Step) (alike : Alike s.pins ps) (run : IsRun s steps t) (made : events_of steps ≡ x.calls)
     (holding : AreHolding ps (before ++ kept ∷ after)) (is : n ≡ length before + 1)
-    (read : x.read ≡ Some (Session n line)) (alone : ¬ TakesLines line)
+    (read : x.reply.read ≡ Some (Session n line)) (alone : ¬ TakesLines line)
     (answer : RequestAnswer size kept (record { line = Whole line; more = [] }) x.calls lines kept')
-    (said : x.text ≡ numbered n (text_of lines)) where
+    (said : x.reply.text ≡ numbered n (text_of lines)) where
   abbrev all_before : AllKept
   all_before = before ++ kept ∷ after
 
@@ -181,7 +182,7 @@ abbrev IsNoSession : Option DrillLine → Type 0
 IsNoSession (Some (Session number line)) = ⊥
 IsNoSession _ = Unit {0}
 
-not-own : (number : ℕ) (x : Exchange) (read : Option DrillLine) → x.read ≡ read → IsNoSession read → ¬ IsOwn number x
+not-own : (number : ℕ) (x : Exchange) (read : Option DrillLine) → x.reply.read ≡ read → IsNoSession read → ¬ IsOwn number x
 not-own number x read is none o = subst IsNoSession (sym is ∙ o.1) none
 
 one-line : (a b : ℕ) (l k : List ℕ) → Some (Session a l) ≡ Some (Session b k) → l ≡ k
@@ -191,14 +192,14 @@ one-line a b l k e = cc e
 module _ (law : PinsStay) (size number : ℕ) (x : Exchange) (all between : AllKept) (s t : State) (ps : List Held)
     (steps : List Step) (alike : Alike s.pins ps) (run : IsRun s steps t) (made : events_of steps ≡ x.calls)
     (holding : AreHolding ps all) where
-  quiet : (read : Option DrillLine) (text : List ℕ) → x.read ≡ read → IsNoSession read
-      → drill.Says text all x.calls x.text between → OneLine size number x all between s ps t
+  quiet : (read : Option DrillLine) (text : List ℕ) → x.reply.read ≡ read → IsNoSession read
+      → drill.Says text all x.calls x.reply.text between → OneLine size number x all between s ps t
   quiet read text is none says =
       silent size number x all between s t ps steps alike run (made ∙ says.0) holding says.2
       (not-own number x read is none)
 
-  of-session : (n : ℕ) (line : List ℕ) → x.read ≡ Some (Session n line)
-      → (a : drill.IsSessionAnswer size n line all x.calls x.text between) → OneLine size number x all between s ps t
+  of-session : (n : ℕ) (line : List ℕ) → x.reply.read ≡ Some (Session n line)
+      → (a : drill.IsSessionAnswer size n line all x.calls x.reply.text between) → OneLine size number x all between s ps t
   of-session n line is a = elim a.answer [
     | inl r ↦ silent size number x all between s t ps steps alike run (made ∙ r.1) holding
         (a.left ∙ (ap (λ (k : Standing). a.before ++ k ∷ a.after) r.3 ∙ sym a.place))
@@ -209,11 +210,11 @@ module _ (law : PinsStay) (size number : ℕ) (x : Exchange) (all between : AllK
         (subst (AreHolding ps) a.place holding) a.number_is is r.0 r.1 a.said))
   ]
 
-  pub by-read : ¬ IsReopen x → (read : Option DrillLine) → x.read ≡ read
-      → Does size x.line read all x.calls x.text between → OneLine size number x all between s ps t
-  by-read stays None is d = quiet None _ is tt d
-  by-read stays (Some Empty) is d = quiet (Some Empty) _ is tt d
-  by-read stays (Some (Session n line)) is d = of-session n line is d
-  by-read stays (Some (Stop disk calls)) is d = quiet (Some (Stop disk calls)) _ is tt d
-  by-read stays (Some (Fail disk call)) is d = quiet (Some (Fail disk call)) _ is tt d
-  by-read stays (Some (Reopen image)) is d = absurd (stays (image, is))
+  pub by-read : ¬ IsReopen x → (in_line : TextLine) (read : Option DrillLine) → x.reply.read ≡ read
+      → Does size in_line read all x.calls x.reply.text between → OneLine size number x all between s ps t
+  by-read stays in_line None is d = quiet None _ is tt d
+  by-read stays in_line (Some Empty) is d = quiet (Some Empty) _ is tt d
+  by-read stays in_line (Some (Session n line)) is d = of-session n line is d
+  by-read stays in_line (Some (Stop disk calls)) is d = quiet (Some (Stop disk calls)) _ is tt d
+  by-read stays in_line (Some (Fail disk call)) is d = quiet (Some (Fail disk call)) _ is tt d
+  by-read stays in_line (Some (Reopen image)) is d = absurd (stays (image, is))

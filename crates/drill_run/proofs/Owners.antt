@@ -20,7 +20,7 @@ use Rattle.store_machine.specs.declared.machine.Reply.TheVariants as reply
 use Rattle.store_machine.specs.declared.machine.State.{State}
 use Rattle.store_machine.specs.declared.machine.Step.{Step}
 use Rattle.store_machine.specs.declared.machine.Times.{Times}
-use Rattle.drill_run.specs.Drilled.{events_of}
+use Rattle.drill_run.specs.Runs.{events_of}
 use Rattle.drill_run.proofs.OwnPins.{NamePins, NamesPin, apart-under, names-under}
 use Rattle.drill_run.proofs.Reowned.{Alike, IsHeld, Reowned, step-reowned, with_pins}
 

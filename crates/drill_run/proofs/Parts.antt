@@ -1,5 +1,5 @@
 -- A drill in parts, and what one session keeps.
-use Rattle.std.proofs.Common.{◌≡◌, ◌+◌, ◌++◌, ◌∙◌, ap, append_assoc, arith, inl, inr, length, List, [], ◌∷◌, map, Option, refl, replicate, subst, suc, sym, zero, ℕ}
+use Rattle.std.proofs.Common.{◌≡◌, ◌+◌, ◌++◌, ◌∙◌, ap, arith, inl, inr, length, List, [], ◌∷◌, map, Option, refl, replicate, subst, suc, sym, zero, ℕ}
 use Rattle.session_acts.specs.Cursors.{Calls}
 use Rattle.session_acts.specs.Watching.{Standing, nothing_kept}
 use Rattle.store_machine.specs.Runs.{IsRun}
@@ -7,9 +7,12 @@ use Rattle.store_machine.specs.declared.machine.Event.{Event}
 use Rattle.store_machine.specs.declared.machine.Reply.{Reply}
 use Rattle.store_machine.specs.declared.machine.State.{State}
 use Rattle.store_machine.specs.declared.machine.Step.{Step}
-use Rattle.drill_run.specs.Dialogue.{AllKept, AreExchanged, Does, Exchange, calls_of}
-use Rattle.drill_run.specs.Drilled.{events_of, all_empty}
+use Rattle.dialogue.specs.Dialogue.{AreExchanged}
+use Rattle.dialogue.proofs.Exchanges.{exchanged-parts}
+use Rattle.drill_run.specs.Acts.{AllKept, Does, forgotten}
 use Rattle.drill_run.specs.Lines.{DrillLine}
+use Rattle.drill_run.specs.Runs.{events_of}
+use Rattle.drill_run.specs.Talking.{Exchange, Kept, all_empty, begun, drills}
 use Rattle.drill_run.specs.Truths.{BeginsAnew}
 use Rattle.drill_run.specs.declared.line.TheConstants.{SESSIONS}
 
@@ -65,34 +68,28 @@ first-none : (number : ℕ) (all : AllKept) → ((n : ℕ) → kept_at n all ≡
 first-none zero all h = refl
 first-none (suc n) all h = h n
 
--- a drill in two parts
-pub exchanged-parts : (size : ℕ) (all all' : AllKept) (xs ys : List Exchange) → AreExchanged size all (xs ++ ys) all'
-    → (between : AllKept) × AreExchanged size all xs between × AreExchanged size between ys all'
-exchanged-parts size all all' [] ys h = (all, refl, h)
-exchanged-parts size all all' (x ∷ xs) ys h =
-    let r = exchanged-parts size h.0 all' xs ys h.2 in (r.0, (h.0, h.1, r.1), r.2)
-
-pub calls-parts : (xs ys : List Exchange) → calls_of (xs ++ ys) ≡ calls_of xs ++ calls_of ys
-calls-parts [] ys = refl
-calls-parts (x ∷ xs) ys =
-    ap (λ (l : Calls). x.calls ++ l) (calls-parts xs ys) ∙ sym (append_assoc x.calls (calls_of xs) (calls_of ys))
-
 -- behind a reopening nothing is kept
-pub none-open : (size : ℕ) (before : List Exchange) (between : AllKept) → BeginsAnew before
-    → AreExchanged size all_empty before between → AreNone between
+pub none-open : (size : ℕ) (before : List Exchange) (between : Kept) → BeginsAnew before
+    → AreExchanged drills (begun size) before between → AreNone between.all
 none-open size before between (inl e) h = λ number.
-    let same : between ≡ all_empty =
-    subst (λ (l : List Exchange). AreExchanged size all_empty l between) e h in
-    subst (λ (all : AllKept). of_number number all ≡ nothing_kept) (sym same)
+    let same : between ≡ begun size =
+    subst (λ (l : List Exchange). AreExchanged drills (begun size) l between) e h in
+    subst (λ (k : Kept). of_number number k.all ≡ nothing_kept) (sym same)
     (first-none number all_empty (λ n. none-at n SESSIONS))
 none-open size before between (inr (front, last, e, (image, is))) h = λ number.
-    let r = exchanged-parts size all_empty between front (last ∷ [])
-    (subst (λ (l : List Exchange). AreExchanged size all_empty l between) e h) in
-    let x = r.2 in
-    let does = subst (λ (read : Option DrillLine). Does size last.line read r.0 last.calls last.text x.0) is x.1.1 in
-    let same : between ≡ map (λ _. nothing_kept) r.0 = x.2 ∙ does.3 in
+    let r = exchanged-parts drills (begun size) between front (last ∷ [])
+    (subst (λ (l : List Exchange). AreExchanged drills (begun size) l between) e h) in
+    let x = r.2.1.2 in
+    let does = subst (λ (read : Option DrillLine). Does r.0.page r.2.1.0 read r.0.all last.calls last.reply.text
+    r.2.0.all) is x.does in
+    let same : between.all ≡ forgotten r.0.all = ap (λ (k : Kept). k.all) r.2.2 ∙ does.3 in
     subst (λ (all : AllKept). of_number number all ≡ nothing_kept) (sym same)
-    (first-none number (map (λ _. nothing_kept) r.0) (λ n. none-left n r.0))
+    (first-none number (forgotten r.0.all) (λ n. none-left n r.0.all))
+
+-- the size of a page stays
+pub page-stays : (k k' : Kept) (xs : List Exchange) → AreExchanged drills k xs k' → k'.page ≡ k.page
+page-stays k k' [] h = ap (λ (x : Kept). x.page) h
+page-stays k k' (x ∷ xs) h = page-stays h.0 k' xs h.2 ∙ h.1.2.page_is
 
 -- A run cut where some events end
 pub record Halves (s t : State) (steps : List Step) (xs ys : Calls) : Type 0 where

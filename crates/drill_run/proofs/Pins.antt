@@ -5,15 +5,14 @@ use Rattle.session_acts.specs.Pins.{AreHeld, HasSlot, SameOthers}
 use Rattle.session_acts.specs.Watching.{Standing}
 use Rattle.session_acts.proofs.Held.{slot-left, slot-right}
 use Rattle.session_run.specs.Responds.{KeepsPins}
-use Rattle.drill_run.specs.Dialogue.{AllKept}
-use Rattle.drill_run.specs.Turns.{all_of}
+use Rattle.drill_run.specs.Acts.{AllKept, all_of}
 
 slot-cases : (xs ys : List Cursor) (s : ℕ) → HasSlot (xs ++ ys) s → HasSlot xs s ⊎ HasSlot ys s
 slot-cases [] ys s h = inr h
 slot-cases (x ∷ xs) ys s (inl e) = inl (inl e)
 slot-cases (x ∷ xs) ys s (inr h) = elim (slot-cases xs ys s h) [ inl a ↦ inl (inr a) | inr b ↦ inr b ]
 
-held-left : (a : ℕ → ℕ → Type 0) (xs ys : List Cursor) → AreHeld a (xs ++ ys) → AreHeld a xs
+pub held-left : (a : ℕ → ℕ → Type 0) (xs ys : List Cursor) → AreHeld a (xs ++ ys) → AreHeld a xs
 held-left a [] ys h = tt
 held-left a (x ∷ xs) ys h = (h.0, λ k. h.1 (slot-left xs ys x.slot k), held-left a xs ys h.2)
 

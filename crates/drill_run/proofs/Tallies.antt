@@ -6,7 +6,6 @@ use Rattle.disk_edge.specs.declared.failures.Failures.{Failures}
 use Rattle.store_core.specs.Calls.{NotAbove, NotRaised}
 use Rattle.session_acts.specs.Cursors.{Calls}
 use Rattle.drill_run.specs.Causes.{MayFail, Tally, faults_in}
-use Rattle.drill_run.specs.Turns.{IsSmall}
 
 -- `IsTallied` of the failures of disk `a` and of disk `b` alone
 abbrev pub Tallies : Tally → Failures → Failures → Type 0
@@ -31,7 +30,7 @@ unraised (Some k) None n h e = absurd h
 unraised (Some k) (Some m) n h e = let same : k ≡ n = cc e in (m, refl, omega (arith, h, same))
 
 -- events of a session's line
-pub tally-session : (t : Tally) (a b a' b' : Failures) (calls : Calls) → Tallies t a b → IsSmall t
+pub tally-session : (t : Tally) (a b a' b' : Failures) (calls : Calls) → Tallies t a b → t.fails + 1 < 2 ^ 64
     → NotRaised (bound_of a, bound_of b) (bound_of a', bound_of b')
     → (a'.count + 1 < 2 ^ 64 → b'.count + 1 < 2 ^ 64 → a.count + b.count + faults_in calls ≤ a'.count + b'.count)
     → MayFail t (faults_in calls) × Tallies (record t { faults = t.faults + faults_in calls }) a' b'

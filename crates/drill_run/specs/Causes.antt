@@ -1,9 +1,8 @@
 -- For callers: the disk faults that a drill's lines allow. Reopenings cut a drill into parts, in each of which failures
 -- are set anew.
-use Rattle.std.specs.Prelude.{◌≡◌, ◌⊎◌, ◌≤◌, ◌+◌, ℕ, List, [], ◌∷◌, Option, None, Some, count_by}
+use Rattle.std.specs.Prelude.{◌≡◌, ◌⊎◌, ◌≤◌, ◌+◌, ℕ, Option, None, Some, count_by}
 use Rattle.session_acts.specs.Cursors.{Calls}
 use Rattle.drill_core.specs.Faults.{is_disk_fault}
-use Rattle.drill_run.specs.Dialogue.{Exchange}
 use Rattle.drill_run.specs.Lines.{DrillLine, Empty, Session, Stop, Fail, Reopen}
 
 -- the counts of a part of a drill so far: lines `stop` and `stop-b`, lines `fail` and `fail-b`, and events that were
@@ -32,8 +31,3 @@ tally_after t None calls = t
 -- do not exceed the failures set
 abbrev pub MayFail : Tally → ℕ → Type 0
 MayFail t more = (more ≡ 0) ⊎ ((1 ≤ t.stops) ⊎ (t.faults + more ≤ t.fails))
-
--- each disk fault is allowed by the lines of its part before it
-abbrev pub AreCaused : Tally → List Exchange → Type 0
-AreCaused t [] = Unit {0}
-AreCaused t (x ∷ xs) = MayFail t (faults_in x.calls) × AreCaused (tally_after t x.read x.calls) xs

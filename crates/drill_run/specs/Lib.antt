@@ -1,9 +1,10 @@
 pub mod Lines
 pub mod Numbers
-pub mod Dialogue
+pub mod Acts
 pub mod Causes
-pub mod Drilled
+pub mod Talking
+pub mod Runs
 pub mod Views
-pub mod Reads
-pub mod Turns
+pub mod Talks
+pub mod TalkLaws
 pub mod Truths

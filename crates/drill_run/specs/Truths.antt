@@ -1,6 +1,7 @@
 -- For callers: the laws of a drill. A reopening keeps the acknowledged commits. Between two reopenings each session's
 -- searches, cursors, lookups and watches are true by the history.
 use Rattle.std.specs.Prelude.{◌≡◌, ◌⊎◌, ℕ, List, [], ◌∷◌, ◌++◌, Some}
+use Rattle.dialogue.specs.Dialogue.{AreExchanged, calls_in}
 use Rattle.io_edge.specs.Lines.{Whole}
 use Rattle.session_acts.specs.Cursors.{Calls}
 use Rattle.session_acts.specs.Talking as session
@@ -16,22 +17,22 @@ use Rattle.store_machine.specs.declared.machine.Change.{Change}
 use Rattle.store_machine.specs.declared.machine.Event.TheVariants.{Crash, Open}
 use Rattle.store_machine.specs.declared.machine.State.{State}
 use Rattle.store_machine.specs.declared.machine.Step.{Step}
-use Rattle.drill_run.specs.Dialogue.{AllKept, AreExchanged, Exchange, calls_of}
-use Rattle.drill_run.specs.Drilled.{events_of, all_empty}
 use Rattle.drill_run.specs.Lines.{Reopen, Session}
 use Rattle.drill_run.specs.Numbers.{numbered}
+use Rattle.drill_run.specs.Runs.{events_of}
+use Rattle.drill_run.specs.Talking.{Exchange, Kept, begun, drills}
 
 -- a line of this session that is answered as in a session
 abbrev pub IsOwn : ℕ → Exchange → Type 0
-IsOwn number x = (line : List ℕ) × (x.read ≡ Some (Session number line)) × ¬ TakesLines line
+IsOwn number x = (line : List ℕ) × (x.reply.read ≡ Some (Session number line)) × ¬ TakesLines line
 
 -- as `IsOwn`, with the line and its reply as an exchange of that session alone
 pub record IsOwnAs (number : ℕ) (x : Exchange) (own : session.Exchange) : Type 0 where
   pub line : List ℕ
-  pub read : x.read ≡ Some (Session number line)
+  pub read : x.reply.read ≡ Some (Session number line)
   pub alone : ¬ TakesLines line
   pub request : own.request ≡ Whole line ∷ []
-  pub said : x.text ≡ numbered number (text_of own.reply)
+  pub said : x.reply.text ≡ numbered number (text_of own.reply)
 
 -- the session's own dialogue in a drill: its lines with their replies, in order
 abbrev pub AreOwn : ℕ → List Exchange → List session.Exchange → Type 0
@@ -42,7 +43,7 @@ AreOwn number (x ∷ xs) own =
     ⊎ (¬ IsOwn number x × AreOwn number xs own)
 
 abbrev pub IsReopen : Exchange → Type 0
-IsReopen x = (image : ℕ) × (x.read ≡ Some (Reopen image))
+IsReopen x = (image : ℕ) × (x.reply.read ≡ Some (Reopen image))
 
 -- no reopening is among them
 abbrev pub IsPart : List Exchange → Type 0
@@ -61,7 +62,7 @@ pub record IsTold (s : State) (steps : List Step) (size number : ℕ) (before pa
   pub left : List Step
   pub there : State
   pub cut : steps ≡ first ++ left
-  pub made : events_of first ≡ calls_of (before ++ part)
+  pub made : events_of first ≡ calls_in drills (before ++ part)
   pub run : IsRun s first there
   pub own : List session.Exchange
   pub are : AreOwn number part own
@@ -77,9 +78,9 @@ AreAllTold s steps size exchanges =
 -- a drill's lines were answered by the first events of a run
 abbrev pub DrillsAreTrue : Type 0
 DrillsAreTrue =
-    (size : ℕ) (exchanges : List Exchange) (all : AllKept) (s t : State) (steps : List Step) (more : Calls)
-    → AreExchanged size all_empty exchanges all → IsSound s → IsRun s steps t
-    → events_of steps ≡ calls_of exchanges ++ more → AreAllTold s steps size exchanges
+    (size : ℕ) (exchanges : List Exchange) (kept : Kept) (s t : State) (steps : List Step) (more : Calls)
+    → AreExchanged drills (begun size) exchanges kept → IsSound s → IsRun s steps t
+    → events_of steps ≡ calls_in drills exchanges ++ more → AreAllTold s steps size exchanges
 
 -- A reopening leaves the history with the commits acknowledged since the last one, in order, and at most one commit
 -- more, the one in doubt. Its base is moved to a version that was there. So the base has the commits up to that

@@ -3,7 +3,7 @@
 use Rattle.std.specs.Prelude.{List, map}
 use Rattle.session_run.specs.Standings.{standing_of}
 use Rattle.session_run.specs.declared.respond.Responder.{Responder}
-use Rattle.drill_run.specs.Dialogue.{AllKept}
+use Rattle.drill_run.specs.Acts.{AllKept}
 use Rattle.drill_run.specs.Lines.{DrillLine, Empty, Session, Stop, Fail, Reopen}
 use Rattle.drill_run.specs.declared.line.DrillLine as read
 use Rattle.drill_run.specs.declared.line.DrillLine.TheVariants as lines

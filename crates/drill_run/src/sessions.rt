@@ -1,8 +1,10 @@
 //! The sessions of a drill, and the answers to its lines.
-ghost use Rattle.std.specs.Prelude.{◌≡◌, ◌≤◌, ◌++◌, [], IfOk, List, None, OnErr, OnOk, Some, length, map, ℕ};
+ghost use Rattle.std.specs.Prelude.{◌≡◌, ◌≤◌, ◌++◌, [], IfOk, List, OnErr, OnOk, Option, Some, length, map, ℕ};
 ghost use Rattle.std.specs.List.{AllByRecursion};
-ghost use Rattle.disk_pair.specs.declared.choice.Which.TheVariants.{First, Second};
-ghost use Rattle.io_edge.specs.Lines.{TextLine, TooLong, Whole};
+ghost use Rattle.dialogue.specs.Dialogue.{IsTextOf};
+ghost use Rattle.drill_core.specs.Worlds.{HasNoFailures};
+ghost use Rattle.io_edge.specs.Lines.{TextLine, Whole};
+ghost use Rattle.session_acts.specs.Cursors.{unpins};
 ghost use Rattle.session_acts.specs.Pins.{AreHeld};
 ghost use Rattle.session_acts.specs.Watching.{nothing_kept};
 ghost use Rattle.session_run.specs.Opened.{opened};
@@ -15,42 +17,76 @@ ghost use Rattle.shell_lang.specs.Reply.{text_of};
 ghost use Rattle.store_core.specs.Stored.{HoldsPin};
 ghost use Rattle.store_disk.specs.InMemory.{StandsInMemory};
 ghost use Rattle.store_machine.specs.declared.machine.State.{State};
-ghost use Rattle.drill_run.specs.Dialogue.{lines_refused, reopened_text};
-ghost use Rattle.drill_run.specs.Drilled.{all_empty};
+ghost use Rattle.drill_run.specs.Acts.{all_of, lines_refused, reopened_text};
+ghost use Rattle.drill_run.specs.Causes.{Tally, nothing_set};
 ghost use Rattle.drill_run.specs.Lines as lines;
 ghost use Rattle.drill_run.specs.Lines.{Reads};
-ghost use Rattle.drill_run.specs.Turns.{Answered, AnswersOwn, AreReady, IsSessionOf, WorldTerm, line_by};
+ghost use Rattle.drill_run.specs.Runs.{RunsTo};
+ghost use Rattle.drill_run.specs.TalkLaws.{can_close, made_more, made_none};
+ghost use Rattle.drill_run.specs.Talking.{begun};
+ghost use Rattle.drill_run.specs.Talks.{Answers, AnswersAsked, AnswersOwn, AreReady, CanAnswer, IsDrilling, IsReady, IsSessionOf, Sets, WorldTerm, is_long, talks};
 ghost use Rattle.drill_run.specs.Views.{kept_in};
 
 use crate::line::{DrillLine, SESSIONS, drill_line};
 use crate::numbers::push_numbered;
 use chem_text::push_decimal;
+use dialogue::{Stop, Talk};
 use disk_pair::Which;
 use drill_core::{World, disk_faults_are_counted};
-use io_edge::Line;
 use par_search::Meter;
-use session_run::{Responder, Settings, Stop};
+use session_run::{Responder, Settings};
 use shell_lang::{LineRefusal, Refusal, Reply, reply_text, taken_lines};
 use std::alloc::{AllocError, Global};
 use std::thread::Threads;
 
-/// The sessions, in order of their numbers, and a buffer that is reused for each reply.
+/// The sessions, in order of their numbers, the line that was taken, and a buffer that is reused for each reply.
 #[derive(Drop)]
 pub struct Sessions {
     pub settings: Settings,
     pub responders: Vec<Responder>,
+    /// Whether the line that was taken is too long.
+    pub too_long: bool,
     /// The reply to the line that was answered last.
     pub out: Vec<u8>,
+}
+
+impl Talk<Option<World>> for Sessions {
+    ghost talk = { talks };
+
+    fn add(&mut self, _: &[u8]) -> bool {
+        self.too_long = false;
+        true
+    }
+
+    fn add_long(&mut self, _: u64) -> bool {
+        self.too_long = true;
+        true
+    }
+
+    fn reply(&self) -> &[u8] {
+        &self.out
+    }
+
+    fn close(&mut self, slot: &mut Option<World>) -> Result<(), Stop> {
+        if let Some(world) = slot {
+            self.give_back(world);
+        }
+        Ok(())
+    }
+
+    ghost made_none = { made_none };
+
+    ghost made_more = { made_more };
+
+    ghost can_close = { can_close };
 }
 
 impl Sessions {
     /// Sessions without cursors and watches.
     pub fn new(alloc: Global, settings: Settings) -> Result<Sessions, AllocError>
         requires servable { IsServable settings }
-        ensures settings { IfOk result (λ sessions. sessions.settings ≡ settings) }
-        ensures none { IfOk result (λ sessions. kept_in sessions.responders.items ≡ all_empty) }
-        ensures ready { IfOk result (λ sessions. (world : WorldTerm) (s : State) → StandsInMemory world s
-            → AreReady world sessions) }
+        ensures { IfOk result (λ sessions. (world : WorldTerm) (s : State) → StandsInMemory world s
+            → HasNoFailures world → IsDrilling sessions (Some world) (begun settings.page) [] 0) }
     {
         let mut responders = Vec::new(alloc);
         for _ in 0..SESSIONS {
@@ -60,27 +96,47 @@ impl Sessions {
         Ok(Sessions {
             settings,
             responders,
+            too_long: false,
             out: Vec::new(alloc),
         })
     }
 
-    /// Executes a line that was read, or refuses one that is too long. The reply is then in `out`.
+    /// Answers the line that was taken, by its text. The reply is then in `out`. If memory runs out in a reopening, the
+    /// world is gone.
     pub fn answer<R: Threads + Sync, M: Meter>(
         &mut self,
         rt: &R,
-        world: World,
+        slot: &mut Option<World>,
         meter: &M,
-        line: Line,
         text: &[u8],
-    ) -> Result<World, AllocError>
-        requires { AreReady world self.old }
-        ensures { Answered self.old self.new world (line_by line text.now) result }
+    ) -> Result<(), Stop>
+        requires { CanAnswer self.old slot.old text.now }
+        ensures { AnswersAsked result self.old self.new slot.old slot.new text.now }
     {
         self.out.clear();
-        match line {
-            Line::Text => self.obey(rt, world, meter, text),
-            Line::Long { .. } => self.refuse_long(world),
-            Line::End => self.refuse_long(world),
+        match self.answer_line(rt, slot, meter, text) {
+            Ok(()) => Ok(()),
+            Err(_) => Err(Stop::NoMemory),
+        }
+    }
+
+    // Answers the line that was taken, or refuses it if it is too long.
+    fn answer_line<R: Threads + Sync, M: Meter>(
+        &mut self,
+        rt: &R,
+        slot: &mut Option<World>,
+        meter: &M,
+        text: &[u8],
+    ) -> Result<(), AllocError>
+        requires ready { (tally : Tally) × (n : ℕ) × AreReady self.old slot.old tally n }
+        requires empty { self.old.out.items ≡ [] }
+        ensures { (line : TextLine) → is_long line ≡ self.old.too_long → IsTextOf line text.now
+            → Answers result self.old self.new slot.old slot.new line }
+    {
+        if self.too_long {
+            self.out.extend_from_slice(b"refused long\n")
+        } else {
+            self.obey(rt, slot, meter, text)
         }
     }
 
@@ -88,138 +144,45 @@ impl Sessions {
     fn obey<R: Threads + Sync, M: Meter>(
         &mut self,
         rt: &R,
-        world: World,
+        slot: &mut Option<World>,
         meter: &M,
         text: &[u8],
-    ) -> Result<World, AllocError>
-        requires ready { AreReady world self.old }
+    ) -> Result<(), AllocError>
+        requires ready { (tally : Tally) × (n : ℕ) × AreReady self.old slot.old tally n }
         requires empty { self.old.out.items ≡ [] }
-        ensures { Answered self.old self.new world (Whole text.now) result }
+        ensures { Answers result self.old self.new slot.old slot.new (Whole text.now) }
     {
+        let Some(world) = slot else { unreachable!() };
         match drill_line(text) {
-            Some(DrillLine::Empty) => Ok(world),
+            Some(DrillLine::Empty) => Ok(()),
             Some(DrillLine::Session { number, line }) => self.ask(rt, world, meter, number, line),
-            Some(DrillLine::Stop { disk, calls }) => self.stop(world, disk, calls),
-            Some(DrillLine::Fail { disk, call }) => self.fail(world, disk, call),
-            Some(DrillLine::Reopen { image }) => self.reopen(world, image),
-            None => self.refuse(world),
+            Some(DrillLine::Stop { disk, calls }) => {
+                stop(world, disk, calls);
+                self.out.extend_from_slice(b"set\n")
+            }
+            Some(DrillLine::Fail { disk, call }) => {
+                fail(world, disk, call);
+                self.out.extend_from_slice(b"set\n")
+            }
+            Some(DrillLine::Reopen { image }) => self.reopen(slot, image),
+            None => self.out.extend_from_slice(b"refused drill\n"),
         }
     }
 
-    fn refuse_long(&mut self, world: World) -> Result<World, AllocError>
-        requires ready { AreReady world self.old }
-        requires empty { self.old.out.items ≡ [] }
-        ensures { (size : ℕ) → Answered self.old self.new world (TooLong size) result }
-    {
-        self.say(world, b"refused long\n")
-    }
-
-    fn refuse(&mut self, world: World) -> Result<World, AllocError>
-        requires ready { AreReady world self.old }
-        requires empty { self.old.out.items ≡ [] }
-        ensures { (text : List ℕ) → Reads (Whole text) None → Answered self.old self.new world (Whole text) result }
-    {
-        self.say(world, b"refused drill\n")
-    }
-
-    fn stop(&mut self, world: World, disk: Which, calls: u32) -> Result<World, AllocError>
-        requires ready { AreReady world self.old }
-        requires empty { self.old.out.items ≡ [] }
-        ensures { (line : TextLine) → Reads line (Some (lines.Stop disk calls))
-            → Answered self.old self.new world line result }
-    {
-        match disk {
-            Which::First => self.stop_a(world, calls),
-            Which::Second => self.stop_b(world, calls),
-        }
-    }
-
-    fn fail(&mut self, world: World, disk: Which, call: u32) -> Result<World, AllocError>
-        requires ready { AreReady world self.old }
-        requires empty { self.old.out.items ≡ [] }
-        ensures { (line : TextLine) → Reads line (Some (lines.Fail disk call))
-            → Answered self.old self.new world line result }
-    {
-        match disk {
-            Which::First => self.fail_a(world, call),
-            Which::Second => self.fail_b(world, call),
-        }
-    }
-
-    fn stop_a(&mut self, mut world: World, calls: u32) -> Result<World, AllocError>
-        requires ready { AreReady world self.old }
-        requires empty { self.old.out.items ≡ [] }
-        ensures { (line : TextLine) → Reads line (Some (lines.Stop First calls))
-            → Answered self.old self.new world line result }
-    {
-        world.stop_after(u64::from(calls));
-        self.say(world, b"set\n")
-    }
-
-    fn fail_a(&mut self, mut world: World, call: u32) -> Result<World, AllocError>
-        requires ready { AreReady world self.old }
-        requires empty { self.old.out.items ≡ [] }
-        ensures { (line : TextLine) → Reads line (Some (lines.Fail First call))
-            → Answered self.old self.new world line result }
-    {
-        world.fail_once(u64::from(call));
-        self.say(world, b"set\n")
-    }
-
-    fn stop_b(&mut self, mut world: World, calls: u32) -> Result<World, AllocError>
-        requires ready { AreReady world self.old }
-        requires empty { self.old.out.items ≡ [] }
-        ensures { (line : TextLine) → Reads line (Some (lines.Stop Second calls))
-            → Answered self.old self.new world line result }
-    {
-        world.stop_after_b(u64::from(calls));
-        self.say(world, b"set\n")
-    }
-
-    fn fail_b(&mut self, mut world: World, call: u32) -> Result<World, AllocError>
-        requires ready { AreReady world self.old }
-        requires empty { self.old.out.items ≡ [] }
-        ensures { (line : TextLine) → Reads line (Some (lines.Fail Second call))
-            → Answered self.old self.new world line result }
-    {
-        world.fail_once_b(u64::from(call));
-        self.say(world, b"set\n")
-    }
-
-    // Opens the world again. All cursors and watches are gone.
-    fn reopen(&mut self, world: World, image: u32) -> Result<World, AllocError>
-        requires ready { AreReady world self.old }
+    // Opens the world again. All cursors and watches are gone, and if memory runs out for it the world is too.
+    fn reopen(&mut self, slot: &mut Option<World>, image: u32) -> Result<(), AllocError>
+        requires ready { (tally : Tally) × (n : ℕ) × AreReady self.old slot.old tally n }
         requires empty { self.old.out.items ≡ [] }
         ensures { (line : TextLine) → Reads line (Some (lines.Reopen image))
-            → Answered self.old self.new world line result }
+            → Answers result self.old self.new slot.old slot.new line }
     {
-        let (world, version) = world.reopen(image)?;
         self.forget();
-        self.say_version(world, version)
-    }
-
-    // Writes a reply, and returns the world.
-    fn say(&mut self, world: World, text: &[u8]) -> Result<World, AllocError>
-        ensures ok { IfOk result (λ after. (after ≡ world)
-            × (self.new.out.items ≡ self.old.out.items ++ text.now)) }
-        ensures settings { self.new.settings ≡ self.old.settings }
-        ensures responders { self.new.responders ≡ self.old.responders }
-    {
-        self.out.extend_from_slice(text)?;
-        Ok(world)
-    }
-
-    // As `say`, but of the number of commits.
-    fn say_version(&mut self, world: World, version: u32) -> Result<World, AllocError>
-        ensures ok { IfOk result (λ after. (after ≡ world)
-            × (self.new.out.items ≡ self.old.out.items ++ reopened_text version)) }
-        ensures settings { self.new.settings ≡ self.old.settings }
-        ensures responders { self.new.responders ≡ self.old.responders }
-    {
-        self.out.extend_from_slice(b"reopened ")?;
-        push_decimal(&mut self.out, u64::from(version))?;
-        self.out.push(b'\n')?;
-        Ok(world)
+        let Some(world) = slot.take() else {
+            unreachable!()
+        };
+        let (world, version) = world.reopen(image)?;
+        *slot = Some(world);
+        say_version(version, &mut self.out)
     }
 
     // Forgets the cursors and watches of all sessions.
@@ -240,24 +203,68 @@ impl Sessions {
     fn ask<R: Threads + Sync, M: Meter>(
         &mut self,
         rt: &R,
-        mut world: World,
+        world: &mut World,
         meter: &M,
         number: u32,
         line: &[u8],
-    ) -> Result<World, AllocError>
-        requires ready { AreReady world self.old }
+    ) -> Result<(), AllocError>
+        requires ready { (tally : Tally) × (n : ℕ) × IsReady self.old world.old tally n }
         requires empty { self.old.out.items ≡ [] }
         requires some { 1 ≤ number }
         requires few { number ≤ SESSIONS }
         ensures { (of : TextLine) → Reads of (Some (lines.Session number line.now))
-            → Answered self.old self.new world of result }
+            → Answers result self.old self.new (Some world.old) (Some world.new) of }
     {
         disk_faults_are_counted();
         let responder = &mut self.responders[number as usize - 1];
-        answer_alone(responder, rt, &mut world, meter, line)?;
-        push_numbered(number, &responder.out, &mut self.out)?;
-        Ok(world)
+        answer_alone(responder, rt, world, meter, line)?;
+        push_numbered(number, &responder.out, &mut self.out)
     }
+
+    // Gives back the pins of all open cursors, in order of the sessions.
+    fn give_back(&mut self, world: &mut World)
+        requires { AreHeld (HoldsPin world.old.memory) (all_of (kept_in self.old.responders.items)) }
+        ensures { RunsTo world.old (unpins (all_of (kept_in self.old.responders.items)))
+            (StandsInMemory world.new) }
+    {
+        for responder in self.responders.iter_mut() {
+            match responder.cursors.close_all(world) {
+                Ok(()) => {}
+                // A world is never worn.
+                Err(_) => unreachable!(),
+            }
+        }
+    }
+}
+
+// Sets a stop of a disk.
+fn stop(world: &mut World, disk: Which, calls: u32)
+    ensures { Sets (lines.Stop disk calls) world.old world.new }
+{
+    match disk {
+        Which::First => world.stop_after(u64::from(calls)),
+        Which::Second => world.stop_after_b(u64::from(calls)),
+    }
+}
+
+// Sets a failure of a disk.
+fn fail(world: &mut World, disk: Which, call: u32)
+    ensures { Sets (lines.Fail disk call) world.old world.new }
+{
+    match disk {
+        Which::First => world.fail_once(u64::from(call)),
+        Which::Second => world.fail_once_b(u64::from(call)),
+    }
+}
+
+// Says the number of commits behind a reopening.
+fn say_version(version: u32, out: &mut Vec<u8>) -> Result<(), AllocError>
+    ensures { OnOk result (out.new.items ≡ out.old.items ++ reopened_text version) }
+{
+    out.extend_from_slice(b"reopened ")?;
+    push_decimal(out, u64::from(version))?;
+    out.push(b'\n')?;
+    Ok(())
 }
 
 // Answers a session's line, or refuses one that would take more lines. The reply is then in `out` of the responder.

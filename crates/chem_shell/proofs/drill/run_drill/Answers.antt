@@ -1,5 +1,6 @@
 use Rattle.std.proofs.Common.{subst, sym}
-use Rattle.drill_run.specs.Drilled.{IsDrilledBy}
+use Rattle.dialogue.specs.Talked.{IsServedBy}
+use Rattle.drill_run.specs.Talking.{begun, drills}
 use Rattle.session_run.specs.Servable.{IsServable}
 use Rattle.session_run.specs.declared.settings.Settings.{Settings}
 use Rattle.dialogue.proofs.Turning.{ends-none}
@@ -27,7 +28,7 @@ returns-clause-drills g c =
     let run = drills.1 (empty c.args.plan.now.commits) c.in-Ok.ensures.empty in (
       drills.0,
       record { steps = run.0; last = run.1; run = run.2; all = run.3 },
-      subst (λ (settings : Settings). IsDrilledBy c.drill.result settings.page (g.I.Source.left c.args.source.now)
+      subst (λ (settings : Settings). IsServedBy drills c.drill.result (begun settings.page) (g.I.Source.left c.args.source.now)
           (g.I.Source.left c.drill.new.source) (g.O.Sink.written c.args.sink.now)
           (g.O.Sink.written c.drill.new.sink) drills.0) c.settings.ensures drills.2,
     )

@@ -1,7 +1,7 @@
 use Rattle.std.proofs.Common.{◌≡◌, ◌≤◌, ◌<◌, ◌++◌, ◌∙◌, add-one, ap, arith, drop, get_or, length, length-set, List, set, subst, sym, take, ℕ}
 use Rattle.std.proofs.Math.Seq.{take-append_seam}
 use Rattle.session_run.specs.declared.respond.Responder.{Responder}
-use Rattle.drill_run.specs.Turns.{IsSessionOf}
+use Rattle.drill_run.specs.Talks.{IsSessionOf}
 use Rattle.drill_run.proofs.Making.{AreForgotten, forgotten-all, forgotten-more, get-all, keeps-none, same-none, set-all}
 use Rattle.drill_run.proofs.sessions.Sessions.forget.Goals as goal
 

@@ -1,6 +1,6 @@
 use Rattle.std.proofs.Common.{◌≡◌, length}
 use Rattle.std.specs.List.{AllByRecursion}
-use Rattle.drill_run.specs.Turns.{IsSessionOf}
+use Rattle.drill_run.specs.Talks.{IsSessionOf}
 use Rattle.drill_run.proofs.Making.{AreForgotten}
 use Rattle.drill_run.proofs.sessions.Sessions.forget.Given as goal
 

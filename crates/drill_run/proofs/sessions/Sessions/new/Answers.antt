@@ -1,12 +1,14 @@
-use Rattle.std.proofs.Common.{◌≡◌, List, add-one, arith, subst, sym, suc, ℕ}
+use Rattle.std.proofs.Common.{◌≡◌, List, add-one, ap, arith, subst, sym, suc, ℕ}
+use Rattle.disk_pair.specs.Term.{disk_a, disk_b}
 use Rattle.session_acts.specs.Pins.{AreHeld}
 use Rattle.session_run.specs.declared.respond.Responder.{Responder}
 use Rattle.store_core.specs.Stored.{HoldsPin}
-use Rattle.drill_run.specs.Dialogue.{AllKept}
-use Rattle.drill_run.specs.Drilled.{all_empty}
-use Rattle.drill_run.specs.Turns.{all_of}
+use Rattle.drill_run.specs.Acts.{AllKept, all_of}
+use Rattle.drill_run.specs.Causes.{nothing_set}
+use Rattle.drill_run.specs.Talking.{all_empty}
 use Rattle.drill_run.specs.Views.{kept_in}
 use Rattle.drill_run.proofs.Making.{AreNew, keeps-none, new-more, new-none, session-new}
+use Rattle.drill_run.proofs.Tallies.{tally-new}
 use Rattle.drill_run.proofs.sessions.Sessions.new.Goals as goal
 
 pub loop-init : goal.loop-init
@@ -22,19 +24,20 @@ loop-preserved c =
     c.in_ok-responder.ensures.none)
     (keeps-none responder c.in_ok-responder.ensures.none c.in_ok-responder.ensures.unwatched)))
 
-pub returns-clause-none : goal.returns-clause-none
-returns-clause-none c =
-    let all : c.loop.counter ≡ 16 = omega arith in
-    rw all at c.loop.invariant.none
-
-pub returns-clause-ready : goal.returns-clause-ready
-returns-clause-ready c = λ world s stands.
+pub returns : goal.returns
+returns c = λ world s stands unset.
     let all : c.loop.counter ≡ 16 = omega arith in
     let none : kept_in c.loop.responders.items ≡ all_empty = rw all at c.loop.invariant.none in
     record {
-      state = s;
-      stands = stands;
-      number = rw all at c.loop.invariant.number;
-      fit = c.loop.invariant.fit;
-      held = subst (λ (l : AllKept). AreHeld (HoldsPin world.memory) (all_of l)) (sym none) tt;
+      kept_is = ap (λ (l : AllKept). record { page = c.args.settings.page; all = l; tally = nothing_set }) (sym none);
+      ready = record {
+        state = s;
+        stands = stands;
+        number = rw all at c.loop.invariant.number;
+        fit = c.loop.invariant.fit;
+        held = subst (λ (l : AllKept). AreHeld (HoldsPin world.memory) (all_of l)) (sym none) tt;
+        tallied = tally-new (disk_a world.pair).failures (disk_b world.pair).failures unset.0 unset.1;
+        few = omega arith;
+      };
+      taken = tt;
     }

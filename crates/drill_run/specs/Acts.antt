@@ -1,10 +1,10 @@
--- For callers: a drill as a dialogue, each line with its events and the text of its answer. Sessions are counted from
--- 1; each has cursors and watches of its own.
+-- For callers: the events of a drill's line, and the text of its answer. Sessions are counted from 1; each has cursors
+-- and watches of its own.
 use Rattle.std.specs.Prelude.{◌≡◌, ◌⊎◌, ◌+◌, ℕ, List, [], ◌∷◌, ◌++◌, length, map, Option, None, Some, codes}
 use Rattle.std.specs.Fmt.{decimal}
 use Rattle.io_edge.specs.Lines.{TextLine, Whole, TooLong}
 use Rattle.session_acts.specs.Acts.{Lines, RequestAnswer}
-use Rattle.session_acts.specs.Cursors.{Calls}
+use Rattle.session_acts.specs.Cursors.{Calls, Cursor}
 use Rattle.session_acts.specs.Watching.{Standing, nothing_kept}
 use Rattle.shell_lang.specs.Command.{TakesLines}
 use Rattle.shell_lang.specs.Reply as reply
@@ -13,19 +13,17 @@ use Rattle.shell_lang.specs.declared.command.LineRefusal.TheVariants as refused
 use Rattle.shell_lang.specs.declared.reply.Refusal.TheVariants as refusals
 use Rattle.store_machine.specs.declared.machine.Event.TheVariants.{Crash, Open}
 use Rattle.store_machine.specs.declared.machine.Reply.TheVariants.{Crashed, Opened}
-use Rattle.drill_run.specs.Lines.{DrillLine, Empty, Session, Stop, Fail, Reopen, Reads}
+use Rattle.drill_run.specs.Lines.{DrillLine, Empty, Session, Stop, Fail, Reopen}
 use Rattle.drill_run.specs.Numbers.{numbered}
 
 -- the states of the sessions between their lines, for each session its own
 abbrev pub AllKept : Type 0
 AllKept = List Standing
 
--- a line, its reading, the events of the store's machine with their replies, and the text of the answer
-pub record Exchange : Type 0 where
-  pub line : TextLine
-  pub read : Option DrillLine
-  pub calls : Calls
-  pub text : List ℕ
+-- the cursors of all of them
+abbrev pub all_of : AllKept → List Cursor
+all_of [] = []
+all_of (standing ∷ all) = standing.cursors ++ all_of all
 
 abbrev pub set_text : List ℕ
 set_text = codes "set" ++ 10 ∷ []
@@ -69,11 +67,15 @@ pub record IsSessionAnswer (size number : ℕ) (line : List ℕ) (all : AllKept)
   pub said : text ≡ numbered number (text_of lines)
   pub left : all' ≡ before ++ standing' ∷ after
 
--- a crash and an opening: the number of commits is answered, and no cursor and no watch is left
+-- no cursor and no watch is left
+abbrev pub forgotten : AllKept → AllKept
+forgotten all = map (λ _. nothing_kept) all
+
+-- a crash and an opening: the number of commits is answered, and nothing is kept
 abbrev pub IsReopening : AllKept → Calls → List ℕ → AllKept → Type 0
 IsReopening all calls text all' =
     (version : ℕ) × (calls ≡ (Crash, Crashed) ∷ (Open, Opened version) ∷ []) × (text ≡ reopened_text version)
-    × (all' ≡ map (λ _. nothing_kept) all)
+    × (all' ≡ forgotten all)
 
 -- the events of a line, by its reading, and its answer; a page has at most `size` records
 abbrev pub Does : ℕ → TextLine → Option DrillLine → AllKept → Calls → List ℕ → AllKept → Type 0
@@ -84,24 +86,3 @@ Does size line (Some (Stop disk calls_left)) all calls text all' = Says set_text
 Does size line (Some (Fail disk call)) all calls text all' = Says set_text all calls text all'
 Does size line (Some (Reopen image)) all calls text all' = IsReopening all calls text all'
 Does size line None all calls text all' = Says (refused_text line) all calls text all'
-
-abbrev pub IsExchange : ℕ → AllKept → Exchange → AllKept → Type 0
-IsExchange size all x all' = Reads x.line x.read × Does size x.line x.read all x.calls x.text all'
-
--- lines were answered one after another, and `all'` is kept then
-abbrev pub AreExchanged : ℕ → AllKept → List Exchange → AllKept → Type 0
-AreExchanged size all [] all' = all' ≡ all
-AreExchanged size all (x ∷ xs) all' =
-    (between : AllKept) × IsExchange size all x between × AreExchanged size between xs all'
-
-abbrev pub lines_of : List Exchange → List TextLine
-lines_of exchanges = map (λ x. x.line) exchanges
-
--- the events of all of them, and the text of all answers
-abbrev pub calls_of : List Exchange → Calls
-calls_of [] = []
-calls_of (x ∷ xs) = x.calls ++ calls_of xs
-
-abbrev pub replies_of : List Exchange → List ℕ
-replies_of [] = []
-replies_of (x ∷ xs) = x.text ++ replies_of xs

@@ -1,1 +1,0 @@
--- Replies with the number of their session, byte by byte.
