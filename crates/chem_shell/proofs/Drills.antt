@@ -46,85 +46,85 @@ served_begins NoMemory page script calls text fit d = d
 served_begins Worn page script calls text fit d = absurd (fit refl)
 
 module _ (law : DrillsAreTrue) (commits page : ℕ) (script : List ℕ) (calls : Calls) (run : AreOfDrill commits calls)
-    where
-  -- lines that were answered told what the run has
-  told : (own rest : Calls) (text : List ℕ) (left : List TextLine) (kept : Kept) → calls ≡ own ++ rest
-      → (d : IsDialogue drills (begun page) (lines_of script) left own text kept)
-      → AreAllTold (empty commits) run.steps page d.exchanges
-  told own rest text left kept e d =
-      law page d.exchanges kept (empty commits) run.last run.steps rest d.exchanged (empty-sound commits) run.run
-      (run.all ∙ (e ∙ ap (λ (l : Calls). l ++ rest) d.made))
+  where
+    -- lines that were answered told what the run has
+    told : (own rest : Calls) (text : List ℕ) (left : List TextLine) (kept : Kept) → calls ≡ own ++ rest
+        → (d : IsDialogue drills (begun page) (lines_of script) left own text kept)
+        → AreAllTold (empty commits) run.steps page d.exchanges
+    told own rest text left kept e d =
+        law page d.exchanges kept (empty commits) run.last run.steps rest d.exchanged (empty-sound commits) run.run
+        (run.all ∙ (e ∙ ap (λ (l : Calls). l ++ rest) d.made))
 
-  -- the whole
-  whole_true : (text : List ℕ) → IsDrillBy page script calls text
-      → IsTrueDrill (empty commits) run.steps page script calls text
-  whole_true text (own, kept, d, all) = ((own, kept, d, all), told own (unpins (all_of kept.all)) text [] kept all d)
+    -- the whole
+    whole_true : (text : List ℕ) → IsDrillBy page script calls text
+        → IsTrueDrill (empty commits) run.steps page script calls text
+    whole_true text (own, kept, d, all) = ((own, kept, d, all), told own (unpins (all_of kept.all)) text [] kept all d)
 
-  module _ (text : List ℕ) (drill : IsDrillPrefixBy page script calls text) where
-    -- lines that were answered whole, by the first calls
-    as_beginning : (left : List TextLine) (own rest : Calls) (kept : Kept) (replies : List ℕ) → calls ≡ own ++ rest
-        → IsDialogue drills (begun page) (lines_of script) left own replies kept → IsPrefixOf text replies
-        → IsTrueDrillPrefix (empty commits) run.steps page script calls text
-    as_beginning left own rest kept replies all d part = record {
-      drill = drill;
-      left = left;
-      own = own;
-      replies = replies;
-      kept = kept;
-      dialogue = d;
-      said = part;
-      made = (rest, sym all);
-      told = told own rest replies left kept all d;
-    }
-
-    -- the first lines were answered whole, and of the next one's answer a part was put
-    abbrev Last : Kept → Kept → List TextLine → Calls → List ℕ → Type 0
-    Last kept between left its part = IsPut drills between left its part kept ⊎ IsCut drills between left its part kept
-
-    answered : (own rest : Calls) (kept : Kept) → calls ≡ own ++ rest
-        → (s : Stops drills (begun page) (lines_of script) own text (Last kept)) → (request more : List TextLine)
-        (said : Said) → BeginWith drills s.left request more → drills.Answers s.between request s.its said kept
-        → IsPrefixOf s.part said.text → IsTrueDrillPrefix (empty commits) run.steps page script calls text
-    answered own rest kept all s request more said next answer first =
-        let d = s.answered in
-        let x : Exchange = record { request = request; calls = s.its; reply = said } in
-        as_beginning more own rest kept (s.replies ++ said.text) all (record {
-          exchanges = d.exchanges ++ x ∷ [];
-          begin = begin-more drills d.exchanges x (lines_of script) s.left more d.begin next;
-          exchanged = exchanged-more drills (begun page) s.between kept d.exchanges x d.exchanged answer;
-          made = s.made ∙ (ap (λ (l : Calls). l ++ s.its) d.made ∙ sym (calls-more drills d.exchanges x));
-          said = ap (λ (l : List ℕ). l ++ said.text) d.said ∙ sym (text-more drills d.exchanges x);
-        }) (
-          first.0,
-          ap (λ (l : List ℕ). l ++ first.0) s.put
-              ∙ (append_assoc s.replies s.part first.0 ∙ ap (λ (l : List ℕ). s.replies ++ l) first.1),
-        )
-
-    begins_true : (own rest : Calls) (kept : Kept) → calls ≡ own ++ rest
-        → Begins drills (begun page) (lines_of script) own kept text
-        → IsTrueDrillPrefix (empty commits) run.steps page script calls text
-    begins_true own rest kept all (inl b) = as_beginning b.0 own rest kept text all b.1 ([], append-nil text)
-    begins_true own rest kept all (inr s) = by s.last where
-      cut : (q : IsCut drills s.between s.left s.its s.part kept)
+    module _ (text : List ℕ) (drill : IsDrillPrefixBy page script calls text) where
+      -- lines that were answered whole, by the first calls
+      as_beginning : (left : List TextLine) (own rest : Calls) (kept : Kept) (replies : List ℕ) → calls ≡ own ++ rest
+          → IsDialogue drills (begun page) (lines_of script) left own replies kept → IsPrefixOf text replies
           → IsTrueDrillPrefix (empty commits) run.steps page script calls text
-      cut q = elim q.cuts.2 [
-        | inl c ↦ answered own rest kept all s q.request q.more c.0 q.next (q.cuts.0, q.cuts.1, c.1)
-            (c.0.text, ap (λ (l : List ℕ). l ++ c.0.text) q.none)
-        | inr c ↦ as_beginning s.left s.own (s.its ++ rest) s.between s.replies
-            (all ∙ (ap (λ (l : Calls). l ++ rest) s.made ∙ append_assoc s.own s.its rest)) s.answered (
-              [],
-              append-nil text
-                  ∙ (s.put ∙ (ap (λ (l : List ℕ). s.replies ++ l) q.none ∙ append-nil s.replies)),
-            )
-      ]
+      as_beginning left own rest kept replies all d part = record {
+        drill = drill;
+        left = left;
+        own = own;
+        replies = replies;
+        kept = kept;
+        dialogue = d;
+        said = part;
+        made = (rest, sym all);
+        told = told own rest replies left kept all d;
+      }
 
-      by : Last kept s.between s.left s.its s.part
+      -- the first lines were answered whole, and of the next one's answer a part was put
+      abbrev Last : Kept → Kept → List TextLine → Calls → List ℕ → Type 0
+      Last kept between left its part = IsPut drills between left its part kept ⊎ IsCut drills between left its part kept
+
+      answered : (own rest : Calls) (kept : Kept) → calls ≡ own ++ rest
+          → (s : Stops drills (begun page) (lines_of script) own text (Last kept)) → (request more : List TextLine)
+          (said : Said) → BeginWith drills s.left request more → drills.Answers s.between request s.its said kept
+          → IsPrefixOf s.part said.text → IsTrueDrillPrefix (empty commits) run.steps page script calls text
+      answered own rest kept all s request more said next answer first =
+          let d = s.answered in
+          let x : Exchange = record { request = request; calls = s.its; reply = said } in
+          as_beginning more own rest kept (s.replies ++ said.text) all (record {
+            exchanges = d.exchanges ++ x ∷ [];
+            begin = begin-more drills d.exchanges x (lines_of script) s.left more d.begin next;
+            exchanged = exchanged-more drills (begun page) s.between kept d.exchanges x d.exchanged answer;
+            made = s.made ∙ (ap (λ (l : Calls). l ++ s.its) d.made ∙ sym (calls-more drills d.exchanges x));
+            said = ap (λ (l : List ℕ). l ++ said.text) d.said ∙ sym (text-more drills d.exchanges x);
+          }) (
+            first.0,
+            ap (λ (l : List ℕ). l ++ first.0) s.put
+                ∙ (append_assoc s.replies s.part first.0 ∙ ap (λ (l : List ℕ). s.replies ++ l) first.1),
+          )
+
+      begins_true : (own rest : Calls) (kept : Kept) → calls ≡ own ++ rest
+          → Begins drills (begun page) (lines_of script) own kept text
           → IsTrueDrillPrefix (empty commits) run.steps page script calls text
-      by (inl q) = answered own rest kept all s q.request q.more q.reply q.next q.answers q.first
-      by (inr q) = cut q
+      begins_true own rest kept all (inl b) = as_beginning b.0 own rest kept text all b.1 ([], append-nil text)
+      begins_true own rest kept all (inr s) = by s.last where
+        cut : (q : IsCut drills s.between s.left s.its s.part kept)
+            → IsTrueDrillPrefix (empty commits) run.steps page script calls text
+        cut q = elim q.cuts.2 [
+          | inl c ↦ answered own rest kept all s q.request q.more c.0 q.next (q.cuts.0, q.cuts.1, c.1)
+              (c.0.text, ap (λ (l : List ℕ). l ++ c.0.text) q.none)
+          | inr c ↦ as_beginning s.left s.own (s.its ++ rest) s.between s.replies
+              (all ∙ (ap (λ (l : Calls). l ++ rest) s.made ∙ append_assoc s.own s.its rest)) s.answered (
+                [],
+                append-nil text
+                    ∙ (s.put ∙ (ap (λ (l : List ℕ). s.replies ++ l) q.none ∙ append-nil s.replies)),
+              )
+        ]
 
-    prefix_true : IsTrueDrillPrefix (empty commits) run.steps page script calls text
-    prefix_true = begins_true drill.0 (unpins (all_of drill.1.all)) drill.1 drill.3 drill.2
+        by : Last kept s.between s.left s.its s.part
+            → IsTrueDrillPrefix (empty commits) run.steps page script calls text
+        by (inl q) = answered own rest kept all s q.request q.more q.reply q.next q.answers q.first
+        by (inr q) = cut q
+
+      prefix_true : IsTrueDrillPrefix (empty commits) run.steps page script calls text
+      prefix_true = begins_true drill.0 (unpins (all_of drill.1.all)) drill.1 drill.3 drill.2
 
 prefix_of : DrillsAreTrue → (ended : EndStatus) (commits page : ℕ) (input before after : Option (List ℕ))
     (calls : Calls) (run : AreOfDrill commits calls) → ended ≢ Worn

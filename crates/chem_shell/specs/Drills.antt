@@ -1,5 +1,5 @@
 -- For callers: the end after `drill`.
-use Rattle.std.specs.Prelude.{◌≡◌, ℕ, Option, List, [], IfSome}
+use Rattle.std.specs.Prelude.{◌≡◌, ℕ, Option, List, IfSome}
 use Rattle.dialogue.specs.Dialogue.{IsDialogue, IsPrefixOf}
 use Rattle.dialogue.specs.Talked.{IsAllOfTaken, IsTranscript, IsTranscriptPrefix, TakesAll, TakesAtMost, Writes, WritesForTaken}
 use Rattle.drill_run.specs.Runs.{events_of}

@@ -154,7 +154,7 @@ module _ {size : ℕ} {own : List ℕ} {old new : WorldTerm} {kept kept' : Stand
       (Err stops.NoMemory) → AnswersOwn size own old new kept kept'
   own-unsaid out (Unsaid did) = of-did did
 
--- the same where the world may be gone
+-- a line for which nothing is asked or set, where the world may be gone
 pub quiet-at : (a b : Sessions) (slot : Option WorldTerm) (line : TextLine) (read : Option DrillLine) (text : List ℕ)
     → Reads line read
     → Does a.settings.page line read (kept_in a.responders.items) [] text (kept_in a.responders.items)

@@ -30,7 +30,7 @@ keeps-none r e f =
     ap (λ (c : List Cursor). both c (watched_all r.watches.watches)) (ap cursors_of e)
     ∙ ap (λ (w : List Watched). both [] w) (ap watched_all f)
 
--- so many sessions that keep nothing
+-- n sessions that keep nothing
 pub record AreNew (settings : Settings) (n : ℕ) (xs : List Responder) : Type 0 where
   pub number : length xs ≡ n
   pub fit : AllByRecursion (IsSessionOf settings) xs

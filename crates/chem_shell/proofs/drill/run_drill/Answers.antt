@@ -24,11 +24,11 @@ returns-clause-ends g c = rw c.settings.ensures at c.drill.ensures.ends
 
 pub returns-clause-drills : goal.returns-clause-drills
 returns-clause-drills g c =
-    let drills = c.drill.ensures.drills in
-    let run = drills.1 (empty c.args.plan.now.commits) c.in-Ok.ensures.empty in (
-      drills.0,
+    let made = c.drill.ensures.drills in
+    let run = made.1 (empty c.args.plan.now.commits) c.in-Ok.ensures.empty in (
+      made.0,
       record { steps = run.0; last = run.1; run = run.2; all = run.3 },
-      subst (λ (settings : Settings). IsServedBy drills c.drill.result (begun settings.page) (g.I.Source.left c.args.source.now)
-          (g.I.Source.left c.drill.new.source) (g.O.Sink.written c.args.sink.now)
-          (g.O.Sink.written c.drill.new.sink) drills.0) c.settings.ensures drills.2,
+      subst (λ (settings : Settings). IsServedBy drills c.drill.result (begun settings.page)
+          (g.I.Source.left c.args.source.now) (g.I.Source.left c.drill.new.source) (g.O.Sink.written c.args.sink.now)
+          (g.O.Sink.written c.drill.new.sink) made.0) c.settings.ensures made.2,
     )
