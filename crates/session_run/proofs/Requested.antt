@@ -1,5 +1,5 @@
 -- Which acts a request allows, by what was read of it.
-use Rattle.std.proofs.Common.{◌≡◌, ◌++◌, ap, arith, codes, Err, false, true, get_or, inl, inr, length, List, [], ◌∷◌, Ok, refl, Result, subst, suc, sym, zero, ℕ}
+use Rattle.std.proofs.Common.{◌≡◌, ◌⊎◌, ◌++◌, ap, arith, codes, Err, false, true, get_or, inl, inr, length, List, [], ◌∷◌, Ok, refl, Result, subst, suc, sym, zero, ℕ}
 use Rattle.std.specs.Fmt.{decimal}
 use Rattle.io_edge.specs.Lines.{TextLine, Whole}
 use Rattle.mol_finish.specs.declared.fault.Format.{Format}
@@ -182,21 +182,17 @@ records_length zero lines = refl
 records_length (suc n) [] = ap suc (records_length n [])
 records_length (suc n) (line ∷ lines) = ap suc (records_length n (behind_record (line ∷ lines)))
 
--- a command that takes lines is no other line
-pub spells_register_mol : (line : List ℕ) (c : read.Command) (id : ℕ) → c ≡ variants.RegisterMol id
+-- a command that takes lines is spelled by no other line
+pub spells_lines : (line : List ℕ) (c : read.Command)
+    → ((id : ℕ) × (c ≡ variants.RegisterMol id)) ⊎ (((id : ℕ) × (c ≡ variants.ReviseMol id))
+    ⊎ ((id : ℕ) × (count : ℕ) × (c ≡ variants.RegisterSd id count)))
     → Spells line (command_of c) → ¬ TakesLines line → ⊥
-spells_register_mol line c id e s none =
+spells_lines line c (inl (id, e)) s none =
     let t = rw e at s in
     none (inl (inl (inr (decimal id, t.1))))
-
-pub spells_revise_mol : (line : List ℕ) (c : read.Command) (id : ℕ) → c ≡ variants.ReviseMol id
-    → Spells line (command_of c) → ¬ TakesLines line → ⊥
-spells_revise_mol line c id e s none =
+spells_lines line c (inr (inl (id, e))) s none =
     let t = rw e at s in
     none (inl (inr (inr (decimal id, t.1))))
-
-pub spells_register_sd : (line : List ℕ) (c : read.Command) (id count : ℕ) → c ≡ variants.RegisterSd id count
-    → Spells line (command_of c) → ¬ TakesLines line → ⊥
-spells_register_sd line c id count e s none =
+spells_lines line c (inr (inr (id, count, e))) s none =
     let t = rw e at s in
     none (inr (decimal id, count, (no_space id (t.1.0, omega (arith, t.1.1, t.0.0)), t.0, t.2)))

@@ -1,5 +1,6 @@
--- For private clauses alone: when requests can be answered, and changes to a text.
+-- For private clauses alone: when requests can be answered, answers of a responder, and changes to a text.
 use Rattle.std.specs.Prelude.{◌≡◌, Err, ℕ, List, Ok, Result}
+use Rattle.dialogue.specs.declared.end.Stop.{Stop}
 use Rattle.mol_finish.specs.declared.fault.Format.{Format}
 use Rattle.mol_finish.specs.declared.fault.Format.TheVariants.{Molfile}
 use Rattle.mol_finish.specs.declared.fault.TextFault.{TextFault}
@@ -12,15 +13,19 @@ use Rattle.shell_lang.specs.declared.reply.Refusal.TheVariants as refusals
 use Rattle.store_core.specs.declared.service.Service as meaning
 use Rattle.store_machine.specs.declared.machine.Change.{Change}
 use Rattle.store_machine.specs.declared.machine.Change.TheVariants as changes
+use Rattle.session_acts.specs.Acts.{Act, Responds}
 use Rattle.session_acts.specs.Cursors.{Cursor}
 use Rattle.session_acts.specs.Pins.{AreHeld, SameOthers}
+use Rattle.session_run.specs.Made.{AnsweredBy}
 use Rattle.session_run.specs.Opened.{opened}
 use Rattle.session_run.specs.Servable.{IsServable}
+use Rattle.session_run.specs.Standings.{standing_of}
 use Rattle.session_run.specs.Walks.{AreSized, cursors_of}
 use Rattle.session_run.specs.declared.commands.TextChange.{TextChange}
 use Rattle.session_run.specs.declared.commands.Verb.{Verb}
 use Rattle.session_run.specs.declared.commands.Verb.TheVariants as verbs
 use Rattle.session_run.specs.declared.cursors.Cursors.{Cursors}
+use Rattle.session_run.specs.declared.respond.Responder.{Responder}
 
 -- settings within their limits, and the cursors' pages have the size that they name
 pub record IsFit (cursors : Cursors) : Type 0 where
@@ -37,6 +42,13 @@ pub record KeepsPins (held : ℕ → ℕ → Type 0) (cursors : List Cursor) (he
     (cursors' : List Cursor) : Type 0 where
   pub are_held : AreHeld held' cursors'
   pub others : SameOthers held cursors held' cursors'
+
+-- a responder did one of the allowed acts, by calls of a service, and its lines follow the text before
+abbrev pub RespondedBy : {S : Type 0} → meaning.Ghosts S → S → S → (Act → Type 0) → Responder → Responder
+    → Result (Unit {0}) Stop → Type 0
+RespondedBy of service service' Allowed r r' result =
+    AnsweredBy of service service' (Responds r.cursors.settings.page Allowed (standing_of r)) r.out.items r'.out.items
+    (standing_of r') result
 
 abbrev pub change_by : Verb → ℕ → Format → List ℕ → Change
 change_by verbs.Register id format text = changes.Register id format text

@@ -5,16 +5,13 @@ ghost use Rattle.shell_lang.specs.Command.{IsSimilarity};
 ghost use Rattle.shell_lang.specs.Reply.{text_of};
 ghost use Rattle.shell_lang.specs.Written.{Extends};
 ghost use Rattle.store_machine.specs.History.{IsId};
-ghost use Rattle.store_machine.specs.declared.machine.Change.TheVariants as change;
-ghost use Rattle.session_acts.specs.Acts.{Answers, MayRegisterNew, MaySame, MaySimilar, Responds, like_line, same_lines, similar_lines};
-ghost use Rattle.session_acts.specs.Cursors.{Cursor};
-ghost use Rattle.session_run.specs.Made.{AnsweredBy, TellsAll};
-ghost use Rattle.session_run.specs.Responds.{IsFit};
-ghost use Rattle.session_run.specs.Standings.{both, watched_all};
+ghost use Rattle.session_acts.specs.Acts.{MayRegisterNew, MaySame, MaySimilar, like_line, same_lines, similar_lines};
+ghost use Rattle.session_run.specs.Made.{TellsAll};
+ghost use Rattle.session_run.specs.Responds.{IsFit, RespondedBy};
 
 use crate::commands::{commit, refuse_text};
-use crate::cursors::Cursors;
 use crate::listing::push_hits;
+use crate::respond::Responder;
 use crate::say::{say, say_given};
 use crate::search::fault_line;
 use crate::texts::record_is_sound;
@@ -23,93 +20,84 @@ use lookup::{HitList, SimilarList, Similarity, find_same, find_similar};
 use mol_finish::Format;
 use shell_lang::{Refusal, Reply, reply_text};
 use std::alloc::AllocError;
-use store_core::{Change, Recorder, Service};
-use watch_list::Watches;
+use store_core::{Change, Service};
 
-/// Lists the records with the structure of a text.
-pub fn same<S: Service>(
-    recorder: &mut Recorder,
-    cursors: &Cursors,
-    service: &mut S,
-    text: &[u8],
-    out: &mut Vec<u8>,
-) -> Result<(), Stop>
-    requires { IsFit cursors.now }
-    ensures { (here : List Cursor) → AnsweredBy S.Service service.old service.new
-        (Answers cursors.now.settings.page (MaySame text.now) here)
-        out.old.items out.new.items here result }
-{
-    let record = match recorder.record(1, Format::Smiles, text) {
-        Ok(record) => record,
-        Err(fault) => return say(&refuse_text(fault), out),
-    };
-    record_is_sound(&record);
-    match find_same(cursors.alloc, service, &record, cursors.settings.page) {
-        Ok(list) => say_same(&list, out),
-        Err(fault) => say_given(fault_line(fault), out),
+impl Responder {
+    /// Lists the records with the structure of a text.
+    pub(crate) fn same<S: Service>(&mut self, service: &mut S, text: &[u8]) -> Result<(), Stop>
+        requires { IsFit self.old.cursors }
+        ensures answered { RespondedBy S.Service service.old service.new (MaySame text.now)
+            self.old self.new result }
+        ensures cursors { self.new.cursors ≡ self.old.cursors }
+    {
+        let record = match self.recorder.record(1, Format::Smiles, text) {
+            Ok(record) => record,
+            Err(fault) => return say(&refuse_text(fault), &mut self.out),
+        };
+        record_is_sound(&record);
+        let page = self.cursors.settings.page;
+        match find_same(self.cursors.alloc, service, &record, page) {
+            Ok(list) => say_same(&list, &mut self.out),
+            Err(fault) => say_given(fault_line(fault), &mut self.out),
+        }
     }
-}
 
-/// Registers a text, unless a live record has the same structure.
-pub fn register_new<S: Service>(
-    recorder: &mut Recorder,
-    cursors: &Cursors,
-    watches: &mut Watches,
-    service: &mut S,
-    id: u32,
-    text: &[u8],
-    out: &mut Vec<u8>,
-) -> Result<(), Stop>
-    requires fit { IsFit cursors.now }
-    requires id { IsId id }
-    ensures { (here : List Cursor) → AnsweredBy S.Service service.old service.new
-        (Responds cursors.now.settings.page (MayRegisterNew id text.now)
-        (both here (watched_all watches.old.watches)))
-        out.old.items out.new.items (both here (watched_all watches.new.watches)) result }
-{
-    let record = match recorder.record(id, Format::Smiles, text) {
-        Ok(record) => record,
-        Err(fault) => return say(&refuse_text(fault), out),
-    };
-    record_is_sound(&record);
-    match find_same(cursors.alloc, service, &record, cursors.settings.page) {
-        Ok(list) => match list.hits.first() {
-            Some(id) => say(&Reply::Refused(Refusal::Same { id: *id }), out),
-            None => commit(watches, service, Change::Register(record), out),
-        },
-        Err(fault) => say_given(fault_line(fault), out),
+    /// Registers a text, unless a live record has the same structure.
+    pub(crate) fn register_new<S: Service>(
+        &mut self,
+        service: &mut S,
+        id: u32,
+        text: &[u8],
+    ) -> Result<(), Stop>
+        requires fit { IsFit self.old.cursors }
+        requires id { IsId id }
+        ensures answered { RespondedBy S.Service service.old service.new
+            (MayRegisterNew id text.now) self.old self.new result }
+        ensures cursors { self.new.cursors ≡ self.old.cursors }
+    {
+        let record = match self.recorder.record(id, Format::Smiles, text) {
+            Ok(record) => record,
+            Err(fault) => return say(&refuse_text(fault), &mut self.out),
+        };
+        record_is_sound(&record);
+        let page = self.cursors.settings.page;
+        match find_same(self.cursors.alloc, service, &record, page) {
+            Ok(list) => match list.hits.first() {
+                Some(id) => say(&Reply::Refused(Refusal::Same { id: *id }), &mut self.out),
+                None => commit(
+                    &mut self.watches,
+                    service,
+                    Change::Register(record),
+                    &mut self.out,
+                ),
+            },
+            Err(fault) => say_given(fault_line(fault), &mut self.out),
+        }
     }
-}
 
-/// Lists the records most similar to the structure of a text.
-pub fn similar<S: Service>(
-    recorder: &mut Recorder,
-    cursors: &Cursors,
-    service: &mut S,
-    asked: Similarity,
-    text: &[u8],
-    out: &mut Vec<u8>,
-) -> Result<(), Stop>
-    requires fit { IsFit cursors.now }
-    requires asked { IsSimilarity asked.p asked.q asked.k }
-    ensures { (here : List Cursor) → AnsweredBy S.Service service.old service.new
-        (Answers cursors.now.settings.page (MaySimilar asked.p asked.q asked.k text.now) here)
-        out.old.items out.new.items here result }
-{
-    let record = match recorder.record(1, Format::Smiles, text) {
-        Ok(record) => record,
-        Err(fault) => return say(&refuse_text(fault), out),
-    };
-    record_is_sound(&record);
-    match find_similar(
-        cursors.alloc,
-        service,
-        asked,
-        &record,
-        cursors.settings.page,
-    ) {
-        Ok(list) => say_similar(&list, out),
-        Err(fault) => say_given(fault_line(fault), out),
+    /// Lists the records most similar to the structure of a text.
+    pub(crate) fn similar<S: Service>(
+        &mut self,
+        service: &mut S,
+        asked: Similarity,
+        text: &[u8],
+    ) -> Result<(), Stop>
+        requires fit { IsFit self.old.cursors }
+        requires asked { IsSimilarity asked.p asked.q asked.k }
+        ensures answered { RespondedBy S.Service service.old service.new
+            (MaySimilar asked.p asked.q asked.k text.now) self.old self.new result }
+        ensures cursors { self.new.cursors ≡ self.old.cursors }
+    {
+        let record = match self.recorder.record(1, Format::Smiles, text) {
+            Ok(record) => record,
+            Err(fault) => return say(&refuse_text(fault), &mut self.out),
+        };
+        record_is_sound(&record);
+        let page = self.cursors.settings.page;
+        match find_similar(self.cursors.alloc, service, asked, &record, page) {
+            Ok(list) => say_similar(&list, &mut self.out),
+            Err(fault) => say_given(fault_line(fault), &mut self.out),
+        }
     }
 }
 

@@ -1,14 +1,18 @@
 //! The answers to requests.
 ghost use Rattle.std.specs.Prelude.{◌≡◌, [], ℕ, IfOk, List, Ok};
 ghost use Rattle.io_edge.specs.Lines.{TextLine, Whole};
+ghost use Rattle.mol_finish.specs.declared.fault.Format.TheVariants.{Smiles};
 ghost use Rattle.shell_lang.specs.Command.{IsLine, Spells, StartsMolfile, TakesLines, molfile_command};
 ghost use Rattle.shell_lang.specs.CommandView.{command_of};
 ghost use Rattle.shell_lang.specs.Reply.{reply_of};
-ghost use Rattle.session_acts.specs.Acts.{Allows, RequestAnswer, Responds};
+ghost use Rattle.store_machine.specs.History.{IsId};
+ghost use Rattle.store_machine.specs.declared.machine.Change.TheVariants as changes;
+ghost use Rattle.store_machine.specs.declared.machine.Event.TheVariants as events;
+ghost use Rattle.session_acts.specs.Acts.{Allows, MayAsk, MayChange, RequestAllows, RequestAnswer};
 ghost use Rattle.session_acts.specs.Requests.{Request};
 ghost use Rattle.session_run.specs.Made.{AnsweredBy};
 ghost use Rattle.session_run.specs.Opened.{opened};
-ghost use Rattle.session_run.specs.Responds.{IsFit, IsLineWithout, IsReady, IsTextChange};
+ghost use Rattle.session_run.specs.Responds.{IsFit, IsLineWithout, IsReady, IsTextChange, RespondedBy, change_by};
 ghost use Rattle.session_run.specs.Standings.{standing_of};
 ghost use Rattle.session_run.specs.Underway.{IsNext};
 ghost use Rattle.session_run.specs.declared.request.Next.TheVariants as next;
@@ -19,14 +23,13 @@ use crate::commands::{
 use crate::cursors::Cursors;
 use crate::items::find_data;
 use crate::listing::ROOM;
-use crate::lookups::{register_new, same, similar};
 use crate::matching::Matching;
 use crate::records::{Part, SdTexts};
 use crate::request::Next;
 use crate::say::say;
 use crate::sd::register_sd;
 use crate::settings::Settings;
-use crate::watches::{hits, unwatch, watch};
+use crate::watches::unwatch;
 use dialogue::Stop;
 use lookup::Similarity;
 use mol_finish::{Format, TextFault};
@@ -41,7 +44,7 @@ use watch_list::Watches;
 /// The state that answers requests: the open cursors, the watches, and buffers that are reused for each request.
 #[derive(Drop)]
 pub struct Responder {
-    recorder: Recorder,
+    pub(crate) recorder: Recorder,
     pub cursors: Cursors,
     pub watches: Watches,
     /// The text of the molfile of the request under way.
@@ -144,112 +147,85 @@ impl Responder {
     ) -> Result<(), Stop>
         requires ready { IsReady S.Service service.old self.old.cursors }
         requires line { (line : List ℕ) × Spells line (command_of command) × ¬ TakesLines line }
-        ensures answered { (more : List TextLine) → AnsweredBy S.Service service.old service.new
-            (Responds self.old.cursors.settings.page
-            (Allows (standing_of self.old) more (Ok (command_of command.entry))) (standing_of self.old))
-            self.old.out.items self.new.out.items (standing_of self.new) result }
+        ensures answered { (more : List TextLine) → RespondedBy S.Service service.old service.new
+            (Allows (standing_of self.old) more (Ok (command_of command.entry)))
+            self.old self.new result }
         ensures fit { IsFit self.new.cursors }
         ensures settings { self.new.cursors.settings ≡ self.old.cursors.settings }
     {
         match command {
             Command::Empty => Ok(()),
-            Command::Register { id, text } => {
-                let change = TextChange {
-                    verb: Verb::Register,
-                    id,
-                    format: Format::Smiles,
-                };
-                change_text(
-                    &mut self.recorder,
-                    &mut self.watches,
-                    service,
-                    change,
-                    text,
-                    &mut self.out,
-                )
-            }
-            Command::Revise { id, text } => {
-                let change = TextChange {
-                    verb: Verb::Revise,
-                    id,
-                    format: Format::Smiles,
-                };
-                change_text(
-                    &mut self.recorder,
-                    &mut self.watches,
-                    service,
-                    change,
-                    text,
-                    &mut self.out,
-                )
-            }
-            Command::Withdraw { id } => commit(
-                &mut self.watches,
-                service,
-                Change::Withdraw(id),
-                &mut self.out,
-            ),
+            Command::Register { id, text } => self.change(service, Verb::Register, id, text),
+            Command::Revise { id, text } => self.change(service, Verb::Revise, id, text),
+            Command::Withdraw { id } => self.withdraw(service, id),
             Command::Show { id } => show(service, id, &mut self.out),
             Command::Data { id, name } => find_data(service, id, name, &mut self.out),
             Command::Search { pattern } => {
                 self.cursors
                     .search(matching, service, pattern, &mut self.out)
             }
-            Command::Same { text } => same(
-                &mut self.recorder,
-                &self.cursors,
-                service,
-                text,
-                &mut self.out,
-            ),
-            Command::RegisterNew { id, text } => register_new(
-                &mut self.recorder,
-                &self.cursors,
-                &mut self.watches,
-                service,
-                id,
-                text,
-                &mut self.out,
-            ),
+            Command::Same { text } => self.same(service, text),
+            Command::RegisterNew { id, text } => self.register_new(service, id, text),
             Command::Similar { p, q, k, text } => {
-                let asked = Similarity { p, q, k };
-                similar(
-                    &mut self.recorder,
-                    &self.cursors,
-                    service,
-                    asked,
-                    text,
-                    &mut self.out,
-                )
+                self.similar(service, Similarity { p, q, k }, text)
             }
             Command::Start { name, pattern } => {
                 self.cursors.open(service, name, pattern, &mut self.out)
             }
             Command::Next { name } => self.cursors.next(matching, service, name, &mut self.out),
             Command::Close { name } => self.cursors.close(service, name, &mut self.out),
-            Command::Watch { name, text } => watch(
-                &self.cursors,
-                &mut self.watches,
-                service,
-                name,
-                text,
-                &mut self.out,
-            ),
-            Command::Hits { name } => hits(
-                &self.cursors,
-                &mut self.watches,
-                service,
-                name,
-                &mut self.out,
-            ),
+            Command::Watch { name, text } => self.watch(service, name, text),
+            Command::Hits { name } => self.hits(service, name),
             Command::Unwatch { name } => unwatch(&mut self.watches, name, &mut self.out),
             Command::Prune => prune(service, &mut self.out),
             Command::Compact => compact(service, &mut self.out),
             Command::Stats => stats(service, &mut self.out),
-            Command::RegisterMol { .. } => unreachable!(),
-            Command::ReviseMol { .. } => unreachable!(),
-            Command::RegisterSd { .. } => unreachable!(),
+            Command::RegisterMol { .. } | Command::ReviseMol { .. } | Command::RegisterSd { .. } =>
+                unreachable!(),
         }
+    }
+
+    // Registers or revises a SMILES.
+    fn change<S: Service>(
+        &mut self,
+        service: &mut S,
+        verb: Verb,
+        id: u32,
+        text: &[u8],
+    ) -> Result<(), Stop>
+        requires { IsId id }
+        ensures answered { RespondedBy S.Service service.old service.new
+            (MayChange (change_by verb id Smiles text.now) Smiles text.now)
+            self.old self.new result }
+        ensures cursors { self.new.cursors ≡ self.old.cursors }
+    {
+        let change = TextChange {
+            verb,
+            id,
+            format: Format::Smiles,
+        };
+        change_text(
+            &mut self.recorder,
+            &mut self.watches,
+            service,
+            change,
+            text,
+            &mut self.out,
+        )
+    }
+
+    // Withdraws the record of an identifier.
+    fn withdraw<S: Service>(&mut self, service: &mut S, id: u32) -> Result<(), Stop>
+        ensures answered { RespondedBy S.Service service.old service.new
+            (MayAsk (events.Commit (changes.Withdraw id))) self.old self.new result }
+        ensures cursors { self.new.cursors ≡ self.old.cursors }
+    {
+        commit(
+            &mut self.watches,
+            service,
+            Change::Withdraw(id),
+            &mut self.out,
+        )
     }
 
     // Answers a line with its molfile.
@@ -262,9 +238,8 @@ impl Responder {
         requires { (line : List ℕ) × StartsMolfile line × IsLine line (molfile_command read) }
         ensures answered { (request : Request) (line : List ℕ)
             → IsNext (next.WithMolfile read molfile) request line self.old.molfile.items self.old.records
-            → AnsweredBy S.Service service.old service.new
-            (RequestAnswer self.old.cursors.settings.page (standing_of self.old) request)
-            self.old.out.items self.new.out.items (standing_of self.new) result }
+            → RespondedBy S.Service service.old service.new
+            (RequestAllows (standing_of self.old) request) self.old self.new result }
         ensures cursors { self.new.cursors ≡ self.old.cursors }
     {
         match molfile {
@@ -305,9 +280,8 @@ impl Responder {
             × IsNext (next.WithRecords count first) request [] self.old.molfile.items self.old.records }
         ensures answered { (request : Request)
             → IsNext (next.WithRecords count first) request [] self.old.molfile.items self.old.records
-            → AnsweredBy S.Service service.old service.new
-            (RequestAnswer self.old.cursors.settings.page (standing_of self.old) request)
-            self.old.out.items self.new.out.items (standing_of self.new) result }
+            → RespondedBy S.Service service.old service.new
+            (RequestAllows (standing_of self.old) request) self.old self.new result }
         ensures cursors { self.new.cursors ≡ self.old.cursors }
     {
         let result = self.register_records(rt, service, count, first);
@@ -327,9 +301,8 @@ impl Responder {
             × IsNext (next.WithRecords count first) request [] self.old.molfile.items self.old.records }
         ensures answered { (request : Request)
             → IsNext (next.WithRecords count first) request [] self.old.molfile.items self.old.records
-            → AnsweredBy S.Service service.old service.new
-            (RequestAnswer self.old.cursors.settings.page (standing_of self.old) request)
-            self.old.out.items self.new.out.items (standing_of self.new) result }
+            → RespondedBy S.Service service.old service.new
+            (RequestAllows (standing_of self.old) request) self.old self.new result }
         ensures cursors { self.new.cursors ≡ self.old.cursors }
     {
         match first {

@@ -7,16 +7,14 @@ ghost use Rattle.smarts_parse.specs.Pattern.{pattern_of};
 ghost use Rattle.smarts_parse.specs.Sound.{IsSoundPattern};
 ghost use Rattle.watch_list.specs.Watches.{watch_of};
 ghost use Rattle.watch_list.specs.declared.list.TheConstants.{MOST_WATCHES};
-ghost use Rattle.session_acts.specs.Acts.{MayHits, MayWatch, Responds, hit_lines};
-ghost use Rattle.session_acts.specs.Cursors.{Cursor};
-ghost use Rattle.session_run.specs.Made.{AnsweredBy};
-ghost use Rattle.session_run.specs.Responds.{IsFit};
+ghost use Rattle.session_acts.specs.Acts.{MayHits, MayWatch, hit_lines};
+ghost use Rattle.session_run.specs.Responds.{IsFit, RespondedBy};
 ghost use Rattle.session_run.specs.Kept.{Adds, Fills, IsViewOf, TellsHits, Unwatches};
-ghost use Rattle.session_run.specs.Standings.{both, watched_all};
+ghost use Rattle.session_run.specs.Standings.{watched_all};
 
-use crate::cursors::Cursors;
 use crate::listing::push_hits;
 use crate::lookups::count;
+use crate::respond::Responder;
 use crate::say::{say, say_given};
 use crate::search::{fault_line, refuse_pattern};
 use crate::texts::read_pattern;
@@ -28,35 +26,60 @@ use std::alloc::AllocError;
 use store_core::Service;
 use watch_list::{MOST_WATCHES, Watches};
 
-/// Watches the pattern of a text under a new name, from its hits at the head on.
-pub fn watch<S: Service>(
-    cursors: &Cursors,
-    watches: &mut Watches,
-    service: &mut S,
-    name: &[u8],
-    text: &[u8],
-    out: &mut Vec<u8>,
-) -> Result<(), Stop>
-    requires { IsFit cursors.now }
-    ensures { (here : List Cursor) → AnsweredBy S.Service service.old service.new
-        (Responds cursors.now.settings.page (MayWatch (watched_all watches.old.watches) name.now text.now)
-        (both here (watched_all watches.old.watches)))
-        out.old.items out.new.items (both here (watched_all watches.new.watches)) result }
-{
-    let pattern = match read_pattern(cursors.alloc, text) {
-        Ok(pattern) => pattern,
-        Err(fault) => return say(&refuse_pattern(fault), out),
-    };
-    if find_watch(watches, name).is_some() {
-        return say(&Reply::Refused(Refusal::Watch), out);
+impl Responder {
+    /// Watches the pattern of a text under a new name, from its hits at the head on.
+    pub(crate) fn watch<S: Service>(
+        &mut self,
+        service: &mut S,
+        name: &[u8],
+        text: &[u8],
+    ) -> Result<(), Stop>
+        requires { IsFit self.old.cursors }
+        ensures answered { RespondedBy S.Service service.old service.new
+            (MayWatch (watched_all self.old.watches.watches) name.now text.now)
+            self.old self.new result }
+        ensures cursors { self.new.cursors ≡ self.old.cursors }
+    {
+        let alloc = self.cursors.alloc;
+        let pattern = match read_pattern(alloc, text) {
+            Ok(pattern) => pattern,
+            Err(fault) => return say(&refuse_pattern(fault), &mut self.out),
+        };
+        if find_watch(&self.watches, name).is_some() {
+            return say(&Reply::Refused(Refusal::Watch), &mut self.out);
+        }
+        let is_full = self.watches.len() >= MOST_WATCHES;
+        if is_full {
+            return say(&Reply::Refused(Refusal::Watches), &mut self.out);
+        }
+        match find_hits(alloc, service, &pattern, self.cursors.settings.page) {
+            Ok(list) => add(&mut self.watches, name, pattern, list, &mut self.out),
+            Err(fault) => say_given(fault_line(fault), &mut self.out),
+        }
     }
-    let is_full = watches.len() >= MOST_WATCHES;
-    if is_full {
-        return say(&Reply::Refused(Refusal::Watches), out);
-    }
-    match find_hits(cursors.alloc, service, &pattern, cursors.settings.page) {
-        Ok(list) => add(watches, name, pattern, list, out),
-        Err(fault) => say_given(fault_line(fault), out),
+
+    /// Lists the hits of the watch of a name at the head. If they are of another version, they are searched anew.
+    pub(crate) fn hits<S: Service>(&mut self, service: &mut S, name: &[u8]) -> Result<(), Stop>
+        requires { IsFit self.old.cursors }
+        ensures answered { RespondedBy S.Service service.old service.new
+            (MayHits (watched_all self.old.watches.watches) name.now) self.old self.new result }
+        ensures cursors { self.new.cursors ≡ self.old.cursors }
+    {
+        let Some(kept) = find_watch(&self.watches, name) else {
+            return say(&Reply::Refused(Refusal::Watch), &mut self.out);
+        };
+        let rebuilt = kept.rebuilt;
+        match find_newer_hits(
+            self.cursors.alloc,
+            service,
+            kept.pattern,
+            self.cursors.settings.page,
+            kept.version,
+        ) {
+            Ok(None) => say_hits(kept.version, kept.hits, rebuilt, &mut self.out),
+            Ok(Some(list)) => fill(&mut self.watches, name, list, rebuilt, &mut self.out),
+            Err(fault) => say_given(fault_line(fault), &mut self.out),
+        }
     }
 }
 
@@ -82,37 +105,6 @@ fn add(
     match watches.add(name, pattern, version, list.hits) {
         Ok(()) => say(&Reply::Watching { version, hits }, out),
         Err(_) => say(&Reply::MemoryFault, out),
-    }
-}
-
-/// Lists the hits of the watch of a name at the head. If they are of another version, they are searched anew.
-pub fn hits<S: Service>(
-    cursors: &Cursors,
-    watches: &mut Watches,
-    service: &mut S,
-    name: &[u8],
-    out: &mut Vec<u8>,
-) -> Result<(), Stop>
-    requires { IsFit cursors.now }
-    ensures { (here : List Cursor) → AnsweredBy S.Service service.old service.new
-        (Responds cursors.now.settings.page (MayHits (watched_all watches.old.watches) name.now)
-        (both here (watched_all watches.old.watches)))
-        out.old.items out.new.items (both here (watched_all watches.new.watches)) result }
-{
-    let Some(kept) = find_watch(watches, name) else {
-        return say(&Reply::Refused(Refusal::Watch), out);
-    };
-    let rebuilt = kept.rebuilt;
-    match find_newer_hits(
-        cursors.alloc,
-        service,
-        kept.pattern,
-        cursors.settings.page,
-        kept.version,
-    ) {
-        Ok(None) => say_hits(kept.version, kept.hits, rebuilt, out),
-        Ok(Some(list)) => fill(watches, name, list, rebuilt, out),
-        Err(fault) => say_given(fault_line(fault), out),
     }
 }
 

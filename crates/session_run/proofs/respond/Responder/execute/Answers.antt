@@ -3,8 +3,8 @@ use Rattle.store_machine.specs.declared.machine.Event.TheVariants as events
 use Rattle.session_acts.specs.Acts.{Silence}
 use Rattle.session_run.specs.Made.{Said}
 use Rattle.session_run.proofs.Joined.{uses-none}
-use Rattle.session_run.proofs.Requested.{spells_register_mol, spells_register_sd, spells_revise_mol}
-use Rattle.session_run.proofs.Standing.{asks_none, close_none, find_none, keeps_all, open_none, rests, same_none, search_none, similar_none, turn_none}
+use Rattle.session_run.proofs.Requested.{spells_lines}
+use Rattle.session_run.proofs.Standing.{asks_none, close_none, find_none, keeps_all, open_none, rests, search_none, turn_none}
 use Rattle.session_run.proofs.Watched.{unwatched}
 use Rattle.session_run.proofs.respond.Responder.execute.Goals as goal
 
@@ -18,13 +18,13 @@ returns-in-Empty-clause-answered g c more =
     }) (sym (append-nil c.args.self.now.out.items)))
 
 pub returns-in-Register-clause-answered : goal.returns-in-Register-clause-answered
-returns-in-Register-clause-answered g c more = rw c.in-Register.is (c.change_text.ensures _ _)
+returns-in-Register-clause-answered g c more = rw c.in-Register.is c.change.ensures.answered
 
 pub returns-in-Revise-clause-answered : goal.returns-in-Revise-clause-answered
-returns-in-Revise-clause-answered g c more = rw c.in-Revise.is (c.change_text-in-Revise.ensures _ _)
+returns-in-Revise-clause-answered g c more = rw c.in-Revise.is c.change-in-Revise.ensures.answered
 
 pub returns-in-Withdraw-clause-answered : goal.returns-in-Withdraw-clause-answered
-returns-in-Withdraw-clause-answered g c more = rw c.in-Withdraw.is (c.commit.ensures _ _)
+returns-in-Withdraw-clause-answered g c more = rw c.in-Withdraw.is c.withdraw.ensures.answered
 
 pub returns-in-Show-clause-answered : goal.returns-in-Show-clause-answered
 returns-in-Show-clause-answered g c more = rw c.in-Show.is (keeps_all _ (asks_none (events.Look _) tt) (c.show.ensures _ _))
@@ -46,13 +46,13 @@ pub returns-in-Search-clause-answered : goal.returns-in-Search-clause-answered
 returns-in-Search-clause-answered g c more = rw c.in-Search.is (keeps_all _ (search_none _) (c.search.ensures _))
 
 pub returns-in-Same-clause-answered : goal.returns-in-Same-clause-answered
-returns-in-Same-clause-answered g c more = rw c.in-Same.is (keeps_all _ (same_none _) (c.same.ensures _))
+returns-in-Same-clause-answered g c more = rw c.in-Same.is c.same.ensures.answered
 
 pub returns-in-RegisterNew-clause-answered : goal.returns-in-RegisterNew-clause-answered
-returns-in-RegisterNew-clause-answered g c more = rw c.in-RegisterNew.is (c.register_new.ensures _)
+returns-in-RegisterNew-clause-answered g c more = rw c.in-RegisterNew.is c.register_new.ensures.answered
 
 pub returns-in-Similar-clause-answered : goal.returns-in-Similar-clause-answered
-returns-in-Similar-clause-answered g c more = rw c.in-Similar.is (keeps_all _ (similar_none _ _ _ _) (c.similar.ensures _))
+returns-in-Similar-clause-answered g c more = rw c.in-Similar.is c.similar.ensures.answered
 
 pub returns-in-Start-clause-answered : goal.returns-in-Start-clause-answered
 returns-in-Start-clause-answered g c more = rw c.in-Start.is (keeps_all _ (open_none _ _ _) c.open.ensures.answered)
@@ -64,32 +64,24 @@ pub returns-in-Close-clause-answered : goal.returns-in-Close-clause-answered
 returns-in-Close-clause-answered g c more = rw c.in-Close.is (keeps_all _ (close_none _ _) c.close.ensures.answered)
 
 pub returns-in-Watch-clause-answered : goal.returns-in-Watch-clause-answered
-returns-in-Watch-clause-answered g c more = rw c.in-Watch.is (c.watch.ensures _)
+returns-in-Watch-clause-answered g c more = rw c.in-Watch.is c.watch.ensures.answered
 
 pub returns-in-Hits-clause-answered : goal.returns-in-Hits-clause-answered
-returns-in-Hits-clause-answered g c more = rw c.in-Hits.is (c.hits.ensures _)
+returns-in-Hits-clause-answered g c more = rw c.in-Hits.is c.hits.ensures.answered
 
 pub returns-in-Unwatch-clause-answered : goal.returns-in-Unwatch-clause-answered
 returns-in-Unwatch-clause-answered g c more =
     rw c.in-Unwatch.is (unwatched _ (uses-none g.met.S.Service.stays c.args.service.now) c.unwatch.ensures)
 
-pub change_text-requires : goal.change_text-requires
-change_text-requires g c = let s = rw c.in-Register.is at c.requires.line.1 in s.0
+pub change-requires : goal.change-requires
+change-requires g c = let s = rw c.in-Register.is at c.requires.line.1 in s.0
 
-pub change_text-requires-in-Revise : goal.change_text-requires-in-Revise
-change_text-requires-in-Revise g c = let s = rw c.in-Revise.is at c.requires.line.1 in s.0
+pub change-requires-in-Revise : goal.change-requires-in-Revise
+change-requires-in-Revise g c = let s = rw c.in-Revise.is at c.requires.line.1 in s.0
 
 pub unreachable-requires : goal.unreachable-requires
 unreachable-requires g c =
-    spells_register_mol c.requires.line.0 c.args.command _ c.in-RegisterMol.is c.requires.line.1 c.requires.line.2
-
-pub unreachable-requires-in-ReviseMol : goal.unreachable-requires-in-ReviseMol
-unreachable-requires-in-ReviseMol g c =
-    spells_revise_mol c.requires.line.0 c.args.command _ c.in-ReviseMol.is c.requires.line.1 c.requires.line.2
-
-pub unreachable-requires-in-RegisterSd : goal.unreachable-requires-in-RegisterSd
-unreachable-requires-in-RegisterSd g c =
-    spells_register_sd c.requires.line.0 c.args.command _ _ c.in-RegisterSd.is c.requires.line.1 c.requires.line.2
+    spells_lines c.requires.line.0 c.args.command c.in-RegisterMol.is c.requires.line.1 c.requires.line.2
 
 pub register_new-requires-clause-id : goal.register_new-requires-clause-id
 register_new-requires-clause-id g c = let s = rw c.in-RegisterNew.is at c.requires.line.1 in s.0

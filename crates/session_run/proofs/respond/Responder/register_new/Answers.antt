@@ -12,16 +12,16 @@ use Rattle.session_run.proofs.Joined.{uses-more, uses-none}
 use Rattle.session_run.proofs.Lines.{said}
 use Rattle.session_run.proofs.Looked.{first_none, first_some, looked_in_vain, looked_whole, new_lost, new_pinless, printed_of, registered_from, text_unread}
 use Rattle.session_run.proofs.Standing.{at_rest, looks_still, responds_as, rests}
-use Rattle.session_run.proofs.lookups.register_new.Goals as goal
+use Rattle.session_run.proofs.respond.Responder.register_new.Goals as goal
 
-pub returns-in-Err : goal.returns-in-Err
-returns-in-Err g c here =
+pub returns-in-Err-clause-answered : goal.returns-in-Err-clause-answered
+returns-in-Err-clause-answered g c =
     said [] (reply_of c.refuse_text.result) c.say.result (uses-none g.met.S.Service.stays c.args.service.now)
     (at_rest (text_unread (MayRegisterNew c.args.id c.args.text.now) Smiles c.args.text.now c.in-Err.fault _ tt
     (λ f h. h) c.in-Err.ensures.fault c.refuse_text.ensures)) c.say.ensures
 
-pub returns-in-Some : goal.returns-in-Some
-returns-in-Some g c here =
+pub returns-in-Some-clause-answered : goal.returns-in-Some-clause-answered
+returns-in-Some-clause-answered g c =
     let p = printed_of c.args.text.now c.deref.result.now c.deref-2.result.now (arc_value c.in-Ok.record) c.deref.ensures
     c.deref-2.ensures c.record_is_sound.ensures.record c.record_is_sound.ensures.print c.in-Ok.ensures.format
     c.in-Ok.ensures.text in
@@ -43,8 +43,8 @@ returns-in-Some g c here =
       );
     }) c.say-in-Some.ensures
 
-pub returns-in-None : goal.returns-in-None
-returns-in-None g c here =
+pub returns-in-None-clause-answered : goal.returns-in-None-clause-answered
+returns-in-None-clause-answered g c =
     let p = printed_of c.args.text.now c.deref.result.now c.deref-2.result.now (arc_value c.in-Ok.record) c.deref.ensures
     c.deref-2.ensures c.record_is_sound.ensures.record c.record_is_sound.ensures.print c.in-Ok.ensures.format
     c.in-Ok.ensures.text in
@@ -61,10 +61,10 @@ returns-in-None g c here =
     rw (made.id, made.format, made.text) in
     registered_from change m print l.0 list (record { lookup = l.2; is = l.3 }) none (refl, p.structure, p.print_is)
     (λ xs ys a b. uses-more g.met.S.Service.joins g.met.S.Service.lands g.met.S.Service.same a b) l.1
-    (responds_as (λ act a. subst (λ (x : Change). MayAsk (events.Commit x) act) same a) (c.commit.ensures _ here))
+    (responds_as (λ act a. subst (λ (x : Change). MayAsk (events.Commit x) act) same a) (c.commit.ensures _ _))
 
-pub returns-in-Err-find_same : goal.returns-in-Err-find_same
-returns-in-Err-find_same g c here =
+pub returns-in-Err-find_same-clause-answered : goal.returns-in-Err-find_same-clause-answered
+returns-in-Err-find_same-clause-answered g c =
     let p = printed_of c.args.text.now c.deref.result.now c.deref-2.result.now (arc_value c.in-Ok.record) c.deref.ensures
     c.deref-2.ensures c.record_is_sound.ensures.record c.record_is_sound.ensures.print c.in-Ok.ensures.format
     c.in-Ok.ensures.text in
@@ -72,5 +72,6 @@ returns-in-Err-find_same g c here =
     let print = c.deref-2.result.now.print in
     let change = changes.Register c.args.id Smiles c.args.text.now in
     looked_in_vain (new_pinless (refl, (m, p.structure))) (rests Fault tt)
-    (new_lost change m print (refl, p.structure, p.print_is)) c.in-Err-find_same.fault c.fault_line.result c.say_given.result c.in-Err-find_same.ensures.looks c.find_same.ensures.bounds
-    c.fault_line.ensures c.say_given.ensures
+    (new_lost change m print (refl, p.structure, p.print_is)) c.in-Err-find_same.fault c.fault_line.result
+    c.say_given.result c.in-Err-find_same.ensures.looks c.find_same.ensures.bounds c.fault_line.ensures
+    c.say_given.ensures
