@@ -116,7 +116,7 @@ const BATCHES: &[(u32, u32, &[(Option<u32>, u32)])] = &[
     (4, 256, &[(None, 40), (None, 0)]),
 ];
 
-// Several workers take 32 pages of one record in four groups; twenty pages of two records end within the third group,
+// Several workers take 32 pages of one record in four groups; twenty pages of two records end within the fourth group,
 // and one page of 256 has all.
 #[test]
 fn batches_have_the_hits_of_their_pages(rt: HostRuntime) -> Result<(), Fail> {
@@ -195,7 +195,7 @@ impl Meter for Groups {
     }
 }
 
-// For a search for methane by `workers` workers in pages of 24: the number of records tried, of groups, and of groups
+// For a search for methane by `workers` workers in pages of 48: the number of records tried, of groups, and of groups
 // that were matched in one thread.
 fn groups_of<R: Threads + Sync>(
     rt: &R,
@@ -213,7 +213,7 @@ fn groups_of<R: Threads + Sync>(
         alone: AtomicU32::new(0),
     };
     let pattern = parse(alloc, b"C")?;
-    let Ok(mut search) = Search::start_batched(alloc, store, pattern, workers, 24, 32) else {
+    let Ok(mut search) = Search::start_batched(alloc, store, pattern, workers, 48, 32) else {
         return Err(Fail::new("not begun"));
     };
     let mut all = Vec::new(alloc);
@@ -228,7 +228,7 @@ fn groups_of<R: Threads + Sync>(
 
 const SEVERAL: &[u32] = &[2, 3];
 
-// Sixteen pages are matched in two groups of 192 records, each in a piece for each worker.
+// Eight pages are matched in two groups of 192 records, each in a piece for each worker.
 #[test]
 fn the_pieces_of_a_group_are_matched_at_once(rt: HostRuntime) -> Result<(), Fail> {
     let methanes: [&[u8]; 384] = [b"C"; 384];
